@@ -36,6 +36,8 @@ FAULTS = {
     "facts version not known": "facts version not known",
     "facts name a reserved path: {}": "reserved path",
     "facts name a given package: {}": "given package",
+    "baseline is not JSON": "baseline not JSON",
+    "baseline has another shape": "baseline of another shape",
     "unit is not JSON": "unit not JSON",
     "unit has another shape": "unit of another shape",
     "vetx is not JSON: {}": "vetx not JSON",
@@ -51,26 +53,31 @@ FAULTS = {
 OUT_OF_MEMORY = b"ctxvet: out of memory\n"
 NO_THREAD = b"ctxvet: a thread could not be started\n"
 UNWRITTEN = b"ctxvet: cannot write: standard output\n"
-NOTE = rb"ctxvet: note: (?:no Go files in [^\n]*|\d+ packages: \d+ yes, \d+ no; \d+ findings)\n"
+NOTE = (
+    rb"ctxvet: note: (?:no Go files in [^\n]*|\d+ packages: \d+ yes, \d+ no; \d+ findings"
+    rb"|\d+ packages: \d+ yes, \d+ accepted, \d+ no; \d+ findings, \d+ accepted"
+    rb"|\d+ findings of the baseline are gone)\n"
+)
 
-# The texts of findings, by code.
+# The texts of findings by both editions, by code.
 TEXTS = {
     "LC01": "not UTF-8|NUL byte|(?:string|comment|rune) not ended|character of no token|file over 1 MiB",
     "LC02": "unexpected token|deeper than 200|left out: (?:type parameters|goto|fallthrough|dot import|recover)",
     "LC03": "cancel function discarded",
     "LC04": "overwritten before it is called",
-    "LC05": "may not have been called at this return",
-    "LC06": "cancel function used in another way",
-    "LC07": "group may be live at this return",
+    "LC05": "may not have been called at this return|is not called on every path to this return",
+    "LC06": "cancel function used in another way|is used in a way that is not followed",
+    "LC07": "group may be live at this return|is not waited for on every path to this return",
     "LC08": "overwritten before Wait",
-    "LC09": "group used in another way",
-    "LC10": "left to a group that may be live at this return",
+    "LC09": "group used in another way|is used in a way that is not followed",
+    "LC10": "(?:is )?left to a group that (?:may be live at|is not waited for on every path to) this return",
     "LC11": "named result or captured variable bound again",
     "LC12": "too many tracked variables",
-    "LC13": "import is not yes",
-    "LC14": "import has no rank",
+    "LC13": "import is not yes|import has findings",
+    "LC14": "import has no rank|import cycle",
     "LC15": "two functions of one name",
     "LC16": "certificate missing or not holding",
+    "LC18": "accepts nothing",
 }
 FINDING = re.compile(
     "|".join(rf"[^\n]+:[1-9]\d*:[1-9]\d*: {code} \S+ (?:{text})" for code, text in TEXTS.items()).encode()

@@ -13,7 +13,7 @@ from hostility.writes import FULL, closed, left_beside, trouble_beside, unwritte
 
 # It obtains from `a` what it does not call.
 DROPPED = GIVEN.replace("\tdefer cancel()\n", "")
-PLACE, LOST = "b/b.go:11:1", "may not have been called at this return"
+PLACE, LOST = "b/b.go:11:1", "is not called on every path to this return"
 
 
 class Unit(Command):

@@ -10,13 +10,13 @@ ghost use Rattle.workers.specs.Counts.{count_of};
 use crate::certifying::Certifying;
 use crate::packages::{CertifiedPackages, certified_packages};
 use crate::settings::Settings;
-use all_packages::{Report, report_from};
 use certificate_json::Certificates;
 use declared_json::DeclaredPackages;
 use package_workers::{CheckFault, Crew, Open, check_by_workers};
 use std::alloc::Global;
 use std::sync::Wait;
 use std::thread::Threads;
+use told_reports::{Report, report_from};
 use whole_packages::LoadedPackage;
 
 /// The report of packages, and their certificates.
@@ -39,11 +39,11 @@ pub fn certified_report_by_workers<R: Threads + Wait + Sync>(
     alloc: Global,
     packages: &[LoadedPackage],
     outside: &DeclaredPackages,
-    settings: Settings,
+    settings: Settings<'_>,
 ) -> Result<Certified, CheckFault>
     ensures certified { IfOk result
-        (TellsCertified settings.format (declared_tables (packages_of outside.now)) packages.now) }
-    ensures fault { IfErr result (IsFaultOf (count_of settings.workers) (length packages.now)) }
+        (TellsCertified settings.entry.telling (declared_tables (packages_of outside.now)) packages.now) }
+    ensures fault { IfErr result (IsFaultOf (count_of settings.entry.workers) (length packages.now)) }
 {
     let crew = Crew {
         rt,
@@ -55,7 +55,7 @@ pub fn certified_report_by_workers<R: Threads + Wait + Sync>(
         reports,
         certificates,
     } = certified_packages(alloc, packages, judged)?;
-    let report = report_from(alloc, settings.format, &reports)?;
+    let report = report_from(alloc, settings.telling, &reports)?;
     Ok(Certified {
         report,
         certificates,

@@ -1,11 +1,11 @@
 //! How packages are judged and told.
 
-use report_formats::Format;
+use accepting::Telling;
 use workers::Workers;
 
-/// How packages are judged and told: by so many workers, and in this format.
+/// How packages are judged, by so many workers, and how their report is told.
 #[derive(Clone, Copy, Debug)]
-pub struct Settings {
+pub struct Settings<'t> {
     pub workers: Workers,
-    pub format: Format,
+    pub telling: Telling<'t>,
 }

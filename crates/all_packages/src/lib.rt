@@ -5,8 +5,6 @@
 mod known_imports;
 mod packages;
 mod progress;
-mod reports;
 
 pub use packages::{check_by_rules, judge_left};
 pub use progress::Progress;
-pub use reports::{Counts, Report, Text, report_from, told};

@@ -10,7 +10,19 @@ module _ (words rest : List (List ℕ)) (command : List ℕ) (kept : Kept) (is :
     (are : AreKept rest kept) where
   -- what is kept is what the words behind the command name
   are_named : named_of kept ≡ named_by rest
-  are_named = rw (are.files, are.facts, are.lists, are.formats, are.editions, are.numbers, are.whys, are.packages) refl
+  are_named = rw (
+    are.files,
+    are.facts,
+    are.baselines,
+    are.lists,
+    are.formats,
+    are.editions,
+    are.numbers,
+    are.whys,
+    are.accepted,
+    are.quiet,
+    are.packages,
+  ) refl
 
   is_command : (meant : List ℕ) → command ≡ meant → IsCommand meant words (named_of kept)
   is_command meant is_meant = record {
@@ -26,7 +38,7 @@ module _ (words rest : List (List ℕ)) (command : List ℕ) (kept : Kept) (is :
     no_file = by.1;
     no_why = by.2;
     are_sources = by.3.0;
-    is_format = by.3.1;
+    is_report = by.3.1;
     are_workers = by.3.2;
   }
   is_asked (Explain asked) by = record {
@@ -35,7 +47,7 @@ module _ (words rest : List (List ℕ)) (command : List ℕ) (kept : Kept) (is :
     no_file = by.1;
     one_why = by.2;
     are_sources = by.3.0;
-    is_format = by.3.1;
+    is_report = by.3.1;
     are_workers = by.3.2;
   }
   is_asked (Certify asked) by = record {
@@ -44,7 +56,7 @@ module _ (words rest : List (List ℕ)) (command : List ℕ) (kept : Kept) (is :
     is_file = by.1;
     no_why = by.2;
     are_sources = by.3;
-    is_format = by.4;
+    is_report = by.4;
     are_workers = by.5;
   }
   is_asked (Verify asked) by = record {
@@ -53,8 +65,9 @@ module _ (words rest : List (List ℕ)) (command : List ℕ) (kept : Kept) (is :
     is_file = by.1;
     no_why = by.2;
     are_sources = by.3;
-    is_format = by.4;
+    is_report = by.4;
     no_number = by.5;
+    no_baseline = by.6;
   }
   is_asked (Help text) by = absurd by
   is_asked (Wrong text) by = tt

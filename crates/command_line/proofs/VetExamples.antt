@@ -15,8 +15,12 @@ of_unit = refl
 
 -- values behind `=` and in the next word, one dash and two
 of_flagged_unit : vet_call (codes "-edition" ∷ codes "2" ∷ codes "--json" ∷ codes "-c=3" ∷ codes "-why=F" ∷ codes "-facts=" ∷ codes "u.cfg" ∷ [])
-    ≡ Some (asks_unit record { edition = Some Second; facts = Some []; lines = Some 3; is_json = true; with_tests = false; with_reasons = false } (codes "u.cfg"))
+    ≡ Some (asks_unit record { edition = Some Second; facts = Some []; baseline = None; lines = Some 3; is_json = true; with_tests = false; with_reasons = false; accepted = false; quiet = false } (codes "u.cfg"))
 of_flagged_unit = refl
+
+of_accepting_unit : vet_call (codes "-accepted" ∷ codes "-baseline" ∷ codes "r.json" ∷ codes "-quiet=1" ∷ codes "u.cfg" ∷ [])
+    ≡ Some (asks_unit record no_flags { baseline = Some (codes "r.json"); accepted = true; quiet = true } (codes "u.cfg"))
+of_accepting_unit = refl
 
 -- of two values the last counts, and the first wrong one is told
 of_two : vet_call (codes "-json" ∷ codes "-json=false" ∷ codes "u.cfg" ∷ []) ≡ Some (asks_unit no_flags (codes "u.cfg"))

@@ -12,10 +12,13 @@ abbrev pub flags_of : UnitFlags → Flags
 flags_of flags = record {
   edition = flags.edition;
   facts = option_map (λ name. name.now) flags.facts;
+  baseline = option_map (λ name. name.now) flags.baseline;
   lines = flags.lines;
   is_json = flags.is_json;
   with_tests = flags.with_tests;
   with_reasons = flags.with_reasons;
+  accepted = flags.accepted;
+  quiet = flags.quiet;
 }
 
 abbrev pub wrong_of : WrongValue → VetFlag × List ℕ

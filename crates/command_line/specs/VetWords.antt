@@ -11,7 +11,7 @@ use Rattle.std.specs.Str.Parse.{digits_value, without_leading_plus}
 use Rattle.tree.specs.declared.edition.Edition.{Edition}
 use Rattle.tree.specs.declared.edition.Edition.TheVariants.{First, Second}
 use Rattle.command_line.specs.declared.vet_flags.VetFlag.{VetFlag}
-use Rattle.command_line.specs.declared.vet_flags.VetFlag.TheVariants.{EditionNumber, Facts, Json, Lines, Tests, Reasons}
+use Rattle.command_line.specs.declared.vet_flags.VetFlag.TheVariants.{EditionNumber, Facts, Json, Lines, Tests, Reasons, Accepted, Baseline, Quiet}
 
 -- what stands in a word behind its dashes, where it begins with one or two
 abbrev pub behind_dashes : List ℕ → Option (List ℕ)
@@ -28,6 +28,9 @@ flag_named name =
     else if bytes_eq name (codes "c") then Some Lines
     else if bytes_eq name (codes "tests") then Some Tests
     else if bytes_eq name (codes "why") then Some Reasons
+    else if bytes_eq name (codes "accepted") then Some Accepted
+    else if bytes_eq name (codes "baseline") then Some Baseline
+    else if bytes_eq name (codes "quiet") then Some Quiet
     else None
 
 abbrev pub equals_sign : ℕ
@@ -54,9 +57,12 @@ abbrev pub has_value : VetFlag → Bool
 has_value EditionNumber = true
 has_value Facts = true
 has_value Lines = true
+has_value Baseline = true
 has_value Json = false
 has_value Tests = false
 has_value Reasons = false
+has_value Accepted = false
+has_value Quiet = false
 
 -- the text has decimal digits alone, at least one, and says a number below 2 ^ 64
 abbrev pub is_number : List ℕ → Bool
@@ -89,34 +95,44 @@ is_no text =
 abbrev pub truth_of : List ℕ → Option Bool
 truth_of text = if is_yes text then Some true else if is_no text then Some false else None
 
--- What the flags of a unit tell: the edition, the file of declared facts, how many lines are shown around each place,
--- and whether the report is JSON, test files are read, and reasons are told
+-- What the flags of a unit tell: the edition, the file of declared facts, the earlier report whose findings are
+-- accepted, how many lines are shown around each place, and whether the report is JSON, test files are read, reasons
+-- are told, accepted findings are told too, and lines of packages without findings are left out
 pub record Flags : Type 0 where
   pub edition : Option Edition
   pub facts : Option (List ℕ)
+  pub baseline : Option (List ℕ)
   pub lines : Option ℕ
   pub is_json : Bool
   pub with_tests : Bool
   pub with_reasons : Bool
+  pub accepted : Bool
+  pub quiet : Bool
 
 abbrev pub no_flags : Flags
 no_flags = record {
   edition = None;
   facts = None;
+  baseline = None;
   lines = None;
   is_json = false;
   with_tests = false;
   with_reasons = false;
+  accepted = false;
+  quiet = false;
 }
 
 -- the flags with this value of one of them, where it can have that
 abbrev pub with_value : VetFlag → List ℕ → Flags → Option Flags
 with_value EditionNumber text flags = option_map (λ edition. record flags { edition = Some edition }) (edition_of text)
 with_value Facts text flags = Some (record flags { facts = Some text })
+with_value Baseline text flags = Some (record flags { baseline = Some text })
 with_value Lines text flags = option_map (λ lines. record flags { lines = Some lines }) (number_of text)
 with_value Json text flags = option_map (λ is. record flags { is_json = is }) (truth_of text)
 with_value Tests text flags = option_map (λ is. record flags { with_tests = is }) (truth_of text)
 with_value Reasons text flags = option_map (λ is. record flags { with_reasons = is }) (truth_of text)
+with_value Accepted text flags = option_map (λ is. record flags { accepted = is }) (truth_of text)
+with_value Quiet text flags = option_map (λ is. record flags { quiet = is }) (truth_of text)
 
 -- what was told so far, and the first value that its flag can't have
 pub record Told : Type 0 where
@@ -202,6 +218,9 @@ flag_form Json = codes "-json"
 flag_form Lines = codes "-c=N"
 flag_form Tests = codes "-tests"
 flag_form Reasons = codes "-why"
+flag_form Accepted = codes "-accepted"
+flag_form Baseline = codes "-baseline=FILE"
+flag_form Quiet = codes "-quiet"
 
 -- what is told of a value that its flag can't have, as of other wrong words
 abbrev pub wrong_text : VetFlag → List ℕ → List ℕ

@@ -11,8 +11,8 @@ use workers::MOST_WORKERS;
 const ABOUT: &str = "Finds cancel functions of contexts that may not be called in Go packages";
 
 const AFTER: &str = "Exit status:
-  0  yes: nothing was found in any package
-  1  no: something was found
+  0  each package is yes or accepted
+  1  no: something was found that is not accepted
   2  wrong arguments, or something could not be read or written
 
 Examples:
@@ -25,8 +25,8 @@ Examples:
 
 As a tool of the go command:
   go vet -vettool=$(command -v ctxvet) ./...
-with the flags -edition=N, -facts=FILE, -json, -c=N, -tests and -why. A package is judged when those
-that it imports were.";
+with the flags -edition=N, -facts=FILE, -baseline=FILE, -json, -c=N, -tests, -why, -accepted and
+-quiet. A package is judged when those that it imports were.";
 
 const CHECK: &str = "Checks packages and prints their report";
 
@@ -34,7 +34,10 @@ const AFTER_CHECK: &str =
     "The report goes to standard output, the packages in the order of their paths. As text it has a line
 for each finding,
   FILE:LINE:COLUMN: CODE NAME TEXT
-and then `yes PATH` where nothing was found, else `no PATH`.
+and then `yes PATH` where nothing was found, `accepted PATH` where all findings of the package are
+accepted, else `no PATH`. This comment accepts findings LC05 on its line, and where it stands alone, on
+the line below:
+  //ctxvet:accept LC05 lives as long as the process
 What a package imports is known where it is given too, and as far as it is declared in the file of
 facts; else it is taken as unknown.";
 
@@ -65,11 +68,18 @@ const FORMAT: &str = "The form of the report: text, json or sarif [default: text
 
 const WHY: &str = "Tells below each finding why it stands there";
 
+const ACCEPTED: &str = "Tells accepted findings too, with their reasons";
+
+const BASELINE: &str =
+    "Accepts the findings of an earlier report: a file that `check --format json` wrote";
+
+const QUIET: &str = "Leaves out the lines of packages without findings";
+
 const FORMATS: &[&str] = &[TEXT_WORD, JSON_WORD, SARIF_WORD];
 
 const EDITION: &str =
     "The edition of the rules, 1 or 2; the second one knows type parameters, `fallthrough`, `goto` and imports with \
-a dot [default: 1 for words, 2 for a list]";
+a dot [default: 1 for words, 2 where a list is named]";
 
 /// The numbers of the editions.
 const FIRST_EDITION: u64 = 1;
@@ -90,26 +100,6 @@ const CERT_ID: &str = "cert";
 
 /// The words that the program understands.
 fn command<'a>(alloc: Global) -> Result<Command<'a>, AllocError> {
-    let check = Command::new(alloc, CHECK_WORD)
-        .about(CHECK)
-        .after_help(AFTER_CHECK)
-        .arg(workers_option(alloc))?
-        .arg(file(alloc).value_name("OUT").help(OUT))?
-        .arg(why_option(alloc)?)?
-        .arg(facts_option(alloc))?
-        .arg(list_option(alloc))?
-        .arg(format_option(alloc))?
-        .arg(edition_option(alloc))?
-        .arg(package(alloc)?)?;
-    let verify = Command::new(alloc, VERIFY_WORD)
-        .about(VERIFY)
-        .after_help(AFTER_VERIFY)
-        .arg(file(alloc).value_name("IN").help(IN).required(true))?
-        .arg(facts_option(alloc))?
-        .arg(list_option(alloc))?
-        .arg(format_option(alloc))?
-        .arg(edition_option(alloc))?
-        .arg(package(alloc)?)?;
     Command::new(alloc, "ctxvet")
         .about(ABOUT)
         .version(VERSION)
@@ -118,8 +108,42 @@ fn command<'a>(alloc: Global) -> Result<Command<'a>, AllocError> {
         .no_binary_name(true)
         .subcommand_required(true)
         .arg_required_else_help(true)
-        .subcommand(check)?
-        .subcommand(verify)
+        .subcommand(check_command(alloc)?)?
+        .subcommand(verify_command(alloc)?)
+}
+
+/// The words behind `check`.
+fn check_command<'a>(alloc: Global) -> Result<Command<'a>, AllocError> {
+    let check = Command::new(alloc, CHECK_WORD)
+        .about(CHECK)
+        .after_help(AFTER_CHECK)
+        .arg(workers_option(alloc))?
+        .arg(file(alloc).value_name("OUT").help(OUT))?
+        .arg(why_option(alloc)?)?
+        .arg(facts_option(alloc))?
+        .arg(baseline_option(alloc))?;
+    report_options(alloc, check)
+}
+
+/// The words behind `verify`.
+fn verify_command<'a>(alloc: Global) -> Result<Command<'a>, AllocError> {
+    let verify = Command::new(alloc, VERIFY_WORD)
+        .about(VERIFY)
+        .after_help(AFTER_VERIFY)
+        .arg(file(alloc).value_name("IN").help(IN).required(true))?
+        .arg(facts_option(alloc))?;
+    report_options(alloc, verify)
+}
+
+/// The command, and with it the words that both commands have: how the report is told, and of which packages.
+fn report_options<'a>(alloc: Global, command: Command<'a>) -> Result<Command<'a>, AllocError> {
+    command
+        .arg(list_option(alloc))?
+        .arg(format_option(alloc))?
+        .arg(accepted_option(alloc))?
+        .arg(quiet_option(alloc))?
+        .arg(edition_option(alloc))?
+        .arg(package(alloc)?)
 }
 
 /// The option that says how many workers there are.
@@ -155,6 +179,31 @@ fn facts_option<'a>(alloc: Global) -> Arg<'a> {
         .value_name("FILE")
         .help(FACTS)
         .action(ArgAction::Set)
+}
+
+/// The option that names an earlier report.
+fn baseline_option<'a>(alloc: Global) -> Arg<'a> {
+    Arg::new(alloc, "baseline")
+        .long("baseline")
+        .value_name("FILE")
+        .help(BASELINE)
+        .action(ArgAction::Set)
+}
+
+/// The option by which accepted findings are told too.
+fn accepted_option<'a>(alloc: Global) -> Arg<'a> {
+    Arg::new(alloc, "accepted")
+        .long("accepted")
+        .help(ACCEPTED)
+        .action(ArgAction::SetTrue)
+}
+
+/// The option by which lines of packages without findings are left out.
+fn quiet_option<'a>(alloc: Global) -> Arg<'a> {
+    Arg::new(alloc, "quiet")
+        .long("quiet")
+        .help(QUIET)
+        .action(ArgAction::SetTrue)
 }
 
 /// The option that names a list of packages.

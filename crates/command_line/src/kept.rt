@@ -2,26 +2,29 @@
 
 ghost use Rattle.std.specs.Prelude.{◌≡◌, ◌++◌, false, ℕ, List, ◌∷◌, codes, IfOk, OnOk, map};
 ghost use Rattle.std.specs.Str.{bytes_eq};
-ghost use Rattle.command_line.specs.Words.{named_after, named_by, texts_of, with_value, Named};
+ghost use Rattle.command_line.specs.Words.{named_after, named_by, texts_of, with_switch, with_value, Named};
 ghost use Rattle.command_line.specs.KeptWords.{ends_options, AreKept, IsKeptSo};
 
-use crate::options::{ValueOption, is_why, option_in, option_of};
+use crate::options::{Switch, ValueOption, option_in, option_of, switch_of};
 use std::alloc::{AllocError, Global};
 use std::convert::AsStr;
 
 /// Behind this word no word is an option.
 const ESCAPE: &str = "--";
 
-/// The values of each option, the words `--why`, and the words of packages.
+/// The values of each option, the words of each option that has none, and the words of packages.
 #[derive(Drop)]
 pub struct Kept<'a> {
     pub files: Vec<&'a str>,
     pub facts: Vec<&'a str>,
+    pub baselines: Vec<&'a str>,
     pub lists: Vec<&'a str>,
     pub formats: Vec<&'a str>,
     pub editions: Vec<&'a str>,
     pub numbers: Vec<&'a str>,
     pub whys: Vec<&'a str>,
+    pub accepted: Vec<&'a str>,
+    pub quiet: Vec<&'a str>,
     pub packages: Vec<&'a str>,
 }
 
@@ -36,11 +39,14 @@ pub fn kept_words<'a, S: AsStr>(alloc: Global, words: &'a [S]) -> Result<Kept<'a
     let mut kept = Kept {
         files: Vec::new(alloc),
         facts: Vec::new(alloc),
+        baselines: Vec::new(alloc),
         lists: Vec::new(alloc),
         formats: Vec::new(alloc),
         editions: Vec::new(alloc),
         numbers: Vec::new(alloc),
         whys: Vec::new(alloc),
+        accepted: Vec::new(alloc),
+        quiet: Vec::new(alloc),
         packages: Vec::new(alloc),
     };
     let mut awaited = None;
@@ -85,8 +91,8 @@ fn keep_next<'a>(
     }
 }
 
-/// Keeps the word of a package, a word `--why`, or the value that stands in a word with its option. It gives the option
-/// whose value is the next word.
+/// Keeps the word of a package, an option without a value, or the value that stands in a word with its option. It gives
+/// the option whose value is the next word.
 fn keep_word<'a>(word: &'a str, kept: &mut Kept<'a>) -> Result<Option<ValueOption>, AllocError>
     ensures { IfOk result (λ next. bytes_eq word.now (codes "--") ≡ false → (words : List (List ℕ)) (all : Named)
         → IsKeptSo kept.old (named_by (word.now ∷ words)) all
@@ -95,8 +101,8 @@ fn keep_word<'a>(word: &'a str, kept: &mut Kept<'a>) -> Result<Option<ValueOptio
     if let Some(option) = option_of(word) {
         return Ok(Some(option));
     }
-    if is_why(word) {
-        kept.whys.push(word)?;
+    if let Some(switch) = switch_of(word) {
+        keep_switch(switch, word, kept)?;
         return Ok(None);
     }
     if let Some((option, value)) = option_in(word) {
@@ -105,6 +111,19 @@ fn keep_word<'a>(word: &'a str, kept: &mut Kept<'a>) -> Result<Option<ValueOptio
     }
     kept.packages.push(word)?;
     Ok(None)
+}
+
+/// Keeps this word, which is the option.
+fn keep_switch<'a>(switch: Switch, word: &'a str, kept: &mut Kept<'a>) -> Result<(), AllocError>
+    ensures { OnOk result ((left all : Named)
+        → IsKeptSo kept.old (with_switch switch word.now left) all
+        → IsKeptSo kept.new left all) }
+{
+    match switch {
+        Switch::Reasons => Ok(kept.whys.push(word)?),
+        Switch::Accepted => Ok(kept.accepted.push(word)?),
+        Switch::Quiet => Ok(kept.quiet.push(word)?),
+    }
 }
 
 /// Keeps this value of the option.
@@ -120,6 +139,7 @@ fn keep_value<'a>(
     match option {
         ValueOption::Certificates => Ok(kept.files.push(value)?),
         ValueOption::Facts => Ok(kept.facts.push(value)?),
+        ValueOption::Baseline => Ok(kept.baselines.push(value)?),
         ValueOption::PackageList => Ok(kept.lists.push(value)?),
         ValueOption::ReportFormat => Ok(kept.formats.push(value)?),
         ValueOption::EditionNumber => Ok(kept.editions.push(value)?),

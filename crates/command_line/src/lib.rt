@@ -18,4 +18,4 @@ pub use vet_flags::VetFlag;
 pub use vet_laws::own_words_are_no_call;
 pub use vet_texts::{VET_FLAGS, wrong_value_text};
 pub use vet_told::{UnitFlags, WrongValue};
-pub use words::{Asked, CertifyWords, CheckWords, Sources, VerifyWords, read_words};
+pub use words::{Asked, CertifyWords, CheckWords, ReportWords, Sources, VerifyWords, read_words};

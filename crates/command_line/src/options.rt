@@ -1,7 +1,7 @@
 //! The options of a command, and the words that have them.
 
 ghost use Rattle.std.specs.Prelude.{◌≡◌, option_map};
-ghost use Rattle.command_line.specs.Words.{is_why, number_in, number_option_in, option_in, run_option_in, option_of};
+ghost use Rattle.command_line.specs.Words.{baseline_option_in, number_in, number_option_in, option_in, run_option_in, option_of, switch_of};
 
 /// An option that has a value: the word behind it, or what stands behind `=` in its own word.
 #[derive(Clone, Copy, Debug)]
@@ -10,6 +10,8 @@ pub enum ValueOption {
     Certificates,
     /// `--facts`: the file of declared facts.
     Facts,
+    /// `--baseline`: the report of an earlier run, whose findings are accepted.
+    Baseline,
     /// `--packages`: the list of packages.
     PackageList,
     /// `--format`: in which form the report is written.
@@ -20,6 +22,17 @@ pub enum ValueOption {
     WorkerCount,
 }
 
+/// An option that has no value.
+#[derive(Clone, Copy, Debug)]
+pub enum Switch {
+    /// `--why`: the report says why each finding stands there.
+    Reasons,
+    /// `--accepted`: accepted findings are told too.
+    Accepted,
+    /// `--quiet`: lines of packages without findings are left out.
+    Quiet,
+}
+
 /// The option that the word is, whose value is the word behind it.
 pub fn option_of(word: &str) -> Option<ValueOption>
     ensures { result ≡ option_of word.now }
@@ -28,6 +41,8 @@ pub fn option_of(word: &str) -> Option<ValueOption>
         Some(ValueOption::Certificates)
     } else if word == "--facts" {
         Some(ValueOption::Facts)
+    } else if word == "--baseline" {
+        Some(ValueOption::Baseline)
     } else if word == "--packages" {
         Some(ValueOption::PackageList)
     } else if word == "--format" {
@@ -41,11 +56,19 @@ pub fn option_of(word: &str) -> Option<ValueOption>
     }
 }
 
-/// Whether the word is the option `--why`, which has no value: that the report says why each finding stands there.
-pub fn is_why(word: &str) -> bool
-    ensures { result ≡ is_why word.now }
+/// The option without a value that the word is.
+pub fn switch_of(word: &str) -> Option<Switch>
+    ensures { result ≡ switch_of word.now }
 {
-    word == "--why"
+    if word == "--why" {
+        Some(Switch::Reasons)
+    } else if word == "--accepted" {
+        Some(Switch::Accepted)
+    } else if word == "--quiet" {
+        Some(Switch::Quiet)
+    } else {
+        None
+    }
 }
 
 /// The option that the word has with its value in itself, and that value.
@@ -56,6 +79,17 @@ pub fn option_in(word: &str) -> Option<(ValueOption, &str)>
         Some((ValueOption::Certificates, file))
     } else if let Some(file) = word.strip_prefix("--facts=") {
         Some((ValueOption::Facts, file))
+    } else {
+        baseline_option_in(word)
+    }
+}
+
+/// The same of an earlier report, a list of packages, a format or a number.
+fn baseline_option_in(word: &str) -> Option<(ValueOption, &str)>
+    ensures { option_map (λ held. (held.0, held.1.now)) result ≡ baseline_option_in word.now }
+{
+    if let Some(file) = word.strip_prefix("--baseline=") {
+        Some((ValueOption::Baseline, file))
     } else {
         run_option_in(word)
     }

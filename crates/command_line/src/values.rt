@@ -1,10 +1,10 @@
 //! What the values of options ask for.
 
 ghost use Rattle.std.specs.Prelude.{◌≡◌, IfSome};
-ghost use Rattle.command_line.specs.Words.{edition_number, format_text, option_texts, texts_of, AreEdition, AreFormat, AreWorkers, IsNumber};
+ghost use Rattle.command_line.specs.Words.{edition_number, format_text, option_texts, texts_of, AreEdition, AreFormat, AreSwitch, AreWorkers, IsNumber};
 ghost use Rattle.workers.specs.Counts.{count_of};
 
-use report_formats::Format;
+use report::Format;
 use tree::Edition;
 use workers::Workers;
 
@@ -66,6 +66,13 @@ pub fn at_most_one<'a>(words: &[&'a str]) -> Option<Option<&'a str>>
         Some(_) => None,
         None => Some(None),
     }
+}
+
+/// Whether these words, those of an option without a value, ask for it, where they are not more than one.
+pub fn is_asked_by(words: &[&str]) -> Option<bool>
+    ensures { IfSome result (AreSwitch (texts_of words.now)) }
+{
+    Some(at_most_one(words)?.is_some())
 }
 
 /// The format of this word, or that of a text where there is none.

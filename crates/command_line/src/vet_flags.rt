@@ -20,6 +20,12 @@ pub enum VetFlag {
     Tests,
     /// `-why`: whether the report says why each finding stands there.
     Reasons,
+    /// `-accepted`: whether accepted findings are told too.
+    Accepted,
+    /// `-baseline`: the report of an earlier run, whose findings are accepted.
+    Baseline,
+    /// `-quiet`: whether lines of packages without findings are left out.
+    Quiet,
 }
 
 impl VetFlag {
@@ -28,8 +34,12 @@ impl VetFlag {
         ensures { result ≡ has_value self }
     {
         match self {
-            VetFlag::EditionNumber | VetFlag::Facts | VetFlag::Lines => true,
-            VetFlag::Json | VetFlag::Tests | VetFlag::Reasons => false,
+            VetFlag::EditionNumber | VetFlag::Facts | VetFlag::Lines | VetFlag::Baseline => true,
+            VetFlag::Json
+            | VetFlag::Tests
+            | VetFlag::Reasons
+            | VetFlag::Accepted
+            | VetFlag::Quiet => false,
         }
     }
 }
@@ -77,6 +87,12 @@ fn flag_named(name: &str) -> Option<VetFlag>
         Some(VetFlag::Tests)
     } else if name == "why" {
         Some(VetFlag::Reasons)
+    } else if name == "accepted" {
+        Some(VetFlag::Accepted)
+    } else if name == "baseline" {
+        Some(VetFlag::Baseline)
+    } else if name == "quiet" {
+        Some(VetFlag::Quiet)
     } else {
         None
     }

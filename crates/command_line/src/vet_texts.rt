@@ -14,7 +14,10 @@ pub const VET_FLAGS: &str =
 {\"Name\":\"json\",\"Bool\":true,\"Usage\":\"print JSON\"},
 {\"Name\":\"c\",\"Bool\":false,\"Usage\":\"show this many lines around each place\"},
 {\"Name\":\"tests\",\"Bool\":true,\"Usage\":\"read test files too\"},
-{\"Name\":\"why\",\"Bool\":true,\"Usage\":\"tell below each finding why it stands there\"}]
+{\"Name\":\"why\",\"Bool\":true,\"Usage\":\"tell below each finding why it stands there\"},
+{\"Name\":\"accepted\",\"Bool\":true,\"Usage\":\"tell accepted findings too, with their reasons\"},
+{\"Name\":\"baseline\",\"Bool\":false,\"Usage\":\"accept the findings of this report in JSON, by its absolute name\"},
+{\"Name\":\"quiet\",\"Bool\":true,\"Usage\":\"leave out the lines of packages without findings\"}]
 ";
 
 impl VetFlag {
@@ -29,6 +32,9 @@ impl VetFlag {
             VetFlag::Lines => "-c=N",
             VetFlag::Tests => "-tests",
             VetFlag::Reasons => "-why",
+            VetFlag::Accepted => "-accepted",
+            VetFlag::Baseline => "-baseline=FILE",
+            VetFlag::Quiet => "-quiet",
         }
     }
 }

@@ -8,16 +8,21 @@ use crate::vet_flags::{VetFlag, edition_of, flag_in, number_of, truth_of};
 use tree::Edition;
 
 /// What the flags of a unit tell: by which edition of the rules its package is judged, if one is named; the file of
-/// declared facts, if one is named; how many lines are shown around each place, or none; whether the report is JSON,
-/// whether test files are read, and whether the report says why each finding stands there.
+/// declared facts, if one is named; the earlier report whose findings are accepted, if one is named; how many lines are
+/// shown around each place, or none; whether the report is JSON, whether test files are read, whether the report says
+/// why each finding stands there, whether accepted findings are told too, and whether lines of packages without
+/// findings are left out.
 #[derive(Clone, Copy, Debug)]
 pub struct UnitFlags<'a> {
     pub edition: Option<Edition>,
     pub facts: Option<&'a str>,
+    pub baseline: Option<&'a str>,
     pub lines: Option<usize>,
     pub is_json: bool,
     pub with_tests: bool,
     pub with_reasons: bool,
+    pub accepted: bool,
+    pub quiet: bool,
 }
 
 /// A value that its flag can't have.
@@ -43,10 +48,13 @@ impl<'a> ToldFlags<'a> {
             flags: UnitFlags {
                 edition: None,
                 facts: None,
+                baseline: None,
                 lines: None,
                 is_json: false,
                 with_tests: false,
                 with_reasons: false,
+                accepted: false,
+                quiet: false,
             },
             wrong: None,
         }
@@ -61,10 +69,13 @@ fn with_value<'a>(flag: VetFlag, text: &'a str, flags: UnitFlags<'a>) -> Option<
     match flag {
         VetFlag::EditionNumber => told.edition = Some(edition_of(text)?),
         VetFlag::Facts => told.facts = Some(text),
+        VetFlag::Baseline => told.baseline = Some(text),
         VetFlag::Lines => told.lines = Some(number_of(text)?),
         VetFlag::Json => told.is_json = truth_of(text)?,
         VetFlag::Tests => told.with_tests = truth_of(text)?,
         VetFlag::Reasons => told.with_reasons = truth_of(text)?,
+        VetFlag::Accepted => told.accepted = truth_of(text)?,
+        VetFlag::Quiet => told.quiet = truth_of(text)?,
     }
     Some(told)
 }

@@ -1,15 +1,15 @@
 //! What the words of the command line ask for.
 
 ghost use Rattle.std.specs.Prelude.{◌≡◌, ◌↔◌, Any, Contains, IfOk, IfSome, IsTrue, codes, map};
-ghost use Rattle.command_line.specs.Words.{option_texts, AsksForHelp, IsAsked, Named};
+ghost use Rattle.command_line.specs.Words.{option_texts, AreReport, AreSources, AsksForHelp, IsAsked, Named};
 ghost use Rattle.command_line.specs.KeptWords.{named_of, AreCheckWords, IsAskedBy};
 
 use crate::command::understood;
 use crate::kept::{Kept, kept_words};
-use crate::values::{at_most_one, edition_by, format_by, workers_by};
+use crate::values::{at_most_one, edition_by, format_by, is_asked_by, workers_by};
 use clap::Error;
 use clap::error::ErrorKind;
-use report_formats::Format;
+use report::Format;
 use std::alloc::{AllocError, Global};
 use std::convert::AsStr;
 use tree::Edition;
@@ -20,21 +20,32 @@ pub const CHECK_WORD: &str = "check";
 
 pub const VERIFY_WORD: &str = "verify";
 
-/// What is read for a report: the file of declared facts, if one is named, the list of packages, if one is named, and
-/// the words of packages, `PATH=DIR` each. All packages are judged by this edition of the rules, if one is named.
+/// What is read for a report: the file of declared facts, the earlier report whose findings are accepted, and the list
+/// of packages, each if one is named, and the words of packages, `PATH=DIR` each. All packages are judged by this
+/// edition of the rules, if one is named.
 #[derive(Debug, Drop)]
 pub struct Sources<'a> {
     pub facts: Option<&'a str>,
+    pub baseline: Option<&'a str>,
     pub list: Option<&'a str>,
     pub edition: Option<Edition>,
     pub packages: Vec<&'a str>,
 }
 
-/// How many workers check the packages, in which form their report is written, and what is read for it.
+/// How a report is told: its form, whether accepted findings are told too, and whether lines of packages without
+/// findings are left out.
+#[derive(Clone, Copy, Debug)]
+pub struct ReportWords {
+    pub format: Format,
+    pub accepted: bool,
+    pub quiet: bool,
+}
+
+/// How many workers check the packages, how their report is told, and what is read for it.
 #[derive(Debug, Drop)]
 pub struct CheckWords<'a> {
     pub workers: Workers,
-    pub format: Format,
+    pub report: ReportWords,
     pub sources: Sources<'a>,
 }
 
@@ -42,15 +53,15 @@ pub struct CheckWords<'a> {
 #[derive(Debug, Drop)]
 pub struct CertifyWords<'a> {
     pub workers: Workers,
-    pub format: Format,
+    pub report: ReportWords,
     pub file: &'a str,
     pub sources: Sources<'a>,
 }
 
-/// In which form the report is written, the file that has the certificates of the packages, and what is read besides.
+/// How the report is told, the file that has the certificates of the packages, and what is read besides.
 #[derive(Debug, Drop)]
 pub struct VerifyWords<'a> {
-    pub format: Format,
+    pub report: ReportWords,
     pub file: &'a str,
     pub sources: Sources<'a>,
 }
@@ -113,42 +124,27 @@ fn asked_of<'a>(alloc: Global, command: &str, kept: Kept<'a>) -> Asked<'a>
 fn understood_command<'a>(command: &str, kept: Kept<'a>) -> Option<Asked<'a>>
     ensures { IfSome result (IsAskedBy command.now (named_of kept.entry)) }
 {
-    let Kept {
-        files,
-        facts,
-        lists,
-        formats,
-        editions,
-        numbers,
-        whys,
-        packages,
-    } = kept;
-    let file = at_most_one(&files)?;
-    let format = format_by(at_most_one(&formats)?)?;
-    let number = at_most_one(&numbers)?;
-    let why = at_most_one(&whys)?;
-    let sources = Sources {
-        facts: at_most_one(&facts)?,
-        list: at_most_one(&lists)?,
-        edition: edition_by(at_most_one(&editions)?)?,
-        packages,
-    };
     if command == CHECK_WORD {
-        let asked = CheckWords {
-            workers: workers_by(number)?,
-            format,
-            sources,
-        };
-        return check_of(asked, file, why);
+        understood_check(kept)
+    } else if command == VERIFY_WORD {
+        understood_verify(kept)
+    } else {
+        None
     }
-    if command == VERIFY_WORD && number.is_none() && why.is_none() {
-        return Some(Asked::Verify(VerifyWords {
-            format,
-            file: file?,
-            sources,
-        }));
-    }
-    None
+}
+
+/// What `check` with these words behind it asks for, if it is understood.
+fn understood_check<'a>(kept: Kept<'a>) -> Option<Asked<'a>>
+    ensures { IfSome result (IsAskedBy (codes "check") (named_of kept.entry)) }
+{
+    let file = at_most_one(&kept.files)?;
+    let why = at_most_one(&kept.whys)?;
+    let asked = CheckWords {
+        workers: workers_by(at_most_one(&kept.numbers)?)?,
+        report: report_by(&kept)?,
+        sources: sources_by(kept)?,
+    };
+    check_of(asked, file, why)
 }
 
 /// What `check` with these words asks for, where it may have a file for certificates, or a word `--why`, and not both.
@@ -168,12 +164,55 @@ fn check_of<'a>(
         (None, Some(_)) => Some(Asked::Explain(asked)),
         (Some(file), None) => Some(Asked::Certify(CertifyWords {
             workers: asked.workers,
-            format: asked.format,
+            report: asked.report,
             file,
             sources: asked.sources,
         })),
         (Some(_), Some(_)) => None,
     }
+}
+
+/// What `verify` with these words behind it asks for, if it is understood: it has a file of certificates, and neither
+/// workers nor a baseline, and tells no reasons.
+fn understood_verify<'a>(kept: Kept<'a>) -> Option<Asked<'a>>
+    ensures { IfSome result (IsAskedBy (codes "verify") (named_of kept.entry)) }
+{
+    let file = at_most_one(&kept.files)??;
+    let number = at_most_one(&kept.numbers)?;
+    let why = at_most_one(&kept.whys)?;
+    let baseline = at_most_one(&kept.baselines)?;
+    if number.is_none() && why.is_none() && baseline.is_none() {
+        return Some(Asked::Verify(VerifyWords {
+            report: report_by(&kept)?,
+            file,
+            sources: sources_by(kept)?,
+        }));
+    }
+    None
+}
+
+/// How the report is told by these words, if they are understood.
+fn report_by(kept: &Kept) -> Option<ReportWords>
+    ensures { IfSome result (AreReport (named_of kept.now)) }
+{
+    Some(ReportWords {
+        format: format_by(at_most_one(&kept.formats)?)?,
+        accepted: is_asked_by(&kept.accepted)?,
+        quiet: is_asked_by(&kept.quiet)?,
+    })
+}
+
+/// What is read for the report by these words, if they are understood.
+fn sources_by<'a>(kept: Kept<'a>) -> Option<Sources<'a>>
+    ensures { IfSome result (AreSources (named_of kept.entry)) }
+{
+    Some(Sources {
+        facts: at_most_one(&kept.facts)?,
+        baseline: at_most_one(&kept.baselines)?,
+        list: at_most_one(&kept.lists)?,
+        edition: edition_by(at_most_one(&kept.editions)?)?,
+        packages: kept.packages,
+    })
 }
 
 /// What the library answers in place of a package. Its help goes to standard output only where one of the

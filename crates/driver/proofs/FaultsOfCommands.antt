@@ -9,8 +9,9 @@ use Rattle.declared_json.specs.DeclaredPackages.{packages_of}
 use Rattle.declared_json.specs.declared.outside.DeclaredPackages.{DeclaredPackages}
 use Rattle.folders.specs.ReadFaults.{IsReadFault}
 use Rattle.folders.specs.declared.fault.Fault.{Fault}
-use Rattle.folders.specs.declared.fault.Fault.TheVariants.{BadPackage, CannotRead, CannotWrite, CannotWriteFile, CertificateNotJson, CertificateWrongShape, CertificateWrongVersion, CertificateTooOld, FactsNotJson, FactsWrongShape, FactsWrongVersion, FactsReserved, FactsNameGiven, ListNotJson, ListWrongShape, ListIncomplete, TwoPackages, TooManyPackages, OutOfMemory}
+use Rattle.folders.specs.declared.fault.Fault.TheVariants.{BadPackage, BaselineNotJson, BaselineWrongShape, CannotRead, CannotWrite, CannotWriteFile, CertificateNotJson, CertificateWrongShape, CertificateWrongVersion, CertificateTooOld, FactsNotJson, FactsWrongShape, FactsWrongVersion, FactsReserved, FactsNameGiven, ListNotJson, ListWrongShape, ListIncomplete, TwoPackages, TooManyPackages, OutOfMemory}
 use Rattle.driver.specs.declared.input.FilesRead.{FilesRead}
+use Rattle.driver.specs.BaselinesRead.{IsBaselineBytesFault, IsReadBaselineFault}
 use Rattle.driver.specs.Certificates.{IsInputFault, StandIn}
 use Rattle.driver.specs.DeclaredFacts.{IsFactsFault, IsReadFactsFault}
 use Rattle.driver.specs.PackageLists.{IsListBytesFault, IsReadListFault, IsReadSourcesFault}
@@ -44,6 +45,18 @@ pub of_list_read : (lists : List (List ℕ)) (fault : Fault) → IsReadFault fau
 of_list_read lists (CannotRead name) is = tt
 of_list_read lists OutOfMemory is = tt
 of_list_read lists _ is = absurd is
+
+pub of_baseline_bytes : (name bytes : List ℕ) (fault : Fault) → IsBaselineBytesFault bytes fault
+    → IsReadBaselineFault (name ∷ []) fault
+of_baseline_bytes name bytes BaselineNotJson is = record { name = name; is_named = refl; bytes = bytes; is_fault = is }
+of_baseline_bytes name bytes BaselineWrongShape is = record { name = name; is_named = refl; bytes = bytes; is_fault = is }
+of_baseline_bytes name bytes OutOfMemory is = tt
+of_baseline_bytes name bytes _ is = absurd is
+
+pub of_baseline_read : (names : List (List ℕ)) (fault : Fault) → IsReadFault fault → IsReadBaselineFault names fault
+of_baseline_read names (CannotRead name) is = tt
+of_baseline_read names OutOfMemory is = tt
+of_baseline_read names _ is = absurd is
 
 -- what is read is no output
 pub words_are_no_output : (words : List (List ℕ)) (fault : Fault) → IsWordsFault words fault → is_of_output fault ≡ false
@@ -84,10 +97,20 @@ module _ (sources : Sources) where
   -- faults of what is read for a report
   pub of_facts : (fault : Fault) → IsReadFactsFault (option_texts sources.facts) fault → IsReadSourcesFault sources fault
   of_facts (BadPackage text) is = absurd is.is_fault
+  of_facts BaselineNotJson is = absurd is.is_fault
+  of_facts BaselineWrongShape is = absurd is.is_fault
   of_facts ListNotJson is = absurd is.is_fault
   of_facts ListWrongShape is = absurd is.is_fault
   of_facts (ListIncomplete text) is = absurd is.is_fault
   of_facts _ is = is
+
+  pub of_baseline : (fault : Fault) → IsReadBaselineFault (option_texts sources.baseline) fault
+      → IsReadSourcesFault sources fault
+  of_baseline (CannotRead name) is = tt
+  of_baseline OutOfMemory is = tt
+  of_baseline BaselineNotJson is = is
+  of_baseline BaselineWrongShape is = is
+  of_baseline _ is = absurd is.is_fault
 
   pub of_list : (fault : Fault) → IsReadListFault (option_texts sources.list) fault → IsReadSourcesFault sources fault
   of_list (CannotRead name) is = tt
@@ -134,6 +157,8 @@ module _ (sources : Sources) (well : HasBadSource sources → ⊥) where
   of_sources FactsWrongShape is = (well, is)
   of_sources FactsWrongVersion is = (well, is)
   of_sources (FactsReserved text) is = (well, is)
+  of_sources BaselineNotJson is = (well, is)
+  of_sources BaselineWrongShape is = (well, is)
   of_sources ListNotJson is = (well, is)
   of_sources ListWrongShape is = (well, is)
   of_sources (ListIncomplete text) is = (well, is)

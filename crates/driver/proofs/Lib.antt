@@ -5,4 +5,5 @@ mod ReadGiven
 mod WrittenParts
 mod UnitFaults
 mod TakenImports
+mod ToldSo
 mod CallFaults

@@ -7,12 +7,13 @@ use Rattle.declared_json.specs.DeclaredPackages.{packages_of}
 use Rattle.declared_json.specs.declared.outside.DeclaredPackages.{DeclaredPackages}
 use Rattle.package_list.specs.ListedValues.{PackageEntry}
 use Rattle.folders.specs.declared.fault.Fault.{Fault}
-use Rattle.folders.specs.declared.fault.Fault.TheVariants.{BadPackage, CannotRead, FactsNotJson, FactsWrongShape, FactsWrongVersion, FactsReserved, FactsNameGiven, ListNotJson, ListWrongShape, ListIncomplete, TwoPackages, TooManyPackages, NoThread, OutOfMemory}
+use Rattle.folders.specs.declared.fault.Fault.TheVariants.{BadPackage, BaselineNotJson, BaselineWrongShape, CannotRead, FactsNotJson, FactsWrongShape, FactsWrongVersion, FactsReserved, FactsNameGiven, ListNotJson, ListWrongShape, ListIncomplete, TwoPackages, TooManyPackages, NoThread, OutOfMemory}
 use Rattle.driver.specs.declared.input.FilesRead.{FilesRead}
 use Rattle.driver.specs.declared.packages.NamedPackage.{NamedPackage}
+use Rattle.driver.specs.BaselinesRead.{AreKnownBy}
 use Rattle.driver.specs.DeclaredFacts.{AreDeclaredBy}
 use Rattle.driver.specs.PackageLists.{IsReadSourcesFault}
-use Rattle.driver.specs.Packages.{edition_of_lists, edition_of_words, AddListed, AreListedBy, AreNamed, AreRead, AreReadFor}
+use Rattle.driver.specs.Packages.{edition_of_run, AddListed, AreListedBy, AreNamed, AreRead, AreReadFor}
 use Rattle.driver.specs.Faults.{HasBadSource, HasBadWord, IsCheckFault, IsGivenFault, IsSharedReportFault, IsWordsFault}
 
 -- whatever the fault is
@@ -51,13 +52,15 @@ module _ (sources : Sources) where
   pub read_for : (files : FilesRead) (outside : DeclaredPackages) (packages : List NamedPackage) (of_words given : List GivenPackage)
       (entries : List PackageEntry)
       → AreDeclaredBy (option_texts sources.facts) files.facts outside
-      → AreRead (edition_of_words sources) packages of_words
+      → AreKnownBy (option_texts sources.baseline) files.baseline
+      → AreRead (edition_of_run sources) packages of_words
       → AreListedBy (option_texts sources.list) files.list entries
-      → AddListed (edition_of_lists sources) entries of_words given
+      → AddListed (edition_of_run sources) entries of_words given
       → AreNamed (texts_of sources.packages.items) packages
       → AreReadFor sources files outside given
-  read_for files outside packages of_words given entries declared read listed added named = record {
+  read_for files outside packages of_words given entries declared known read listed added named = record {
     are_declared = declared;
+    are_known = known;
     are_given = record {
       packages = packages;
       are_named = named;
@@ -86,6 +89,8 @@ module _ (sources : Sources) where
   of_reading workers FactsWrongShape well is = (well, is)
   of_reading workers FactsWrongVersion well is = (well, is)
   of_reading workers (FactsReserved text) well is = (well, is)
+  of_reading workers BaselineNotJson well is = (well, is)
+  of_reading workers BaselineWrongShape well is = (well, is)
   of_reading workers ListNotJson well is = (well, is)
   of_reading workers ListWrongShape well is = (well, is)
   of_reading workers (ListIncomplete text) well is = (well, is)

@@ -15,13 +15,14 @@ use Rattle.judge.specs.declared.verified.VerifyFault.{VerifyFault}
 use Rattle.judge.specs.declared.verified.VerifyFault.TheVariants as verify_fault
 use Rattle.folders.specs.Packages.{IsPackageWord}
 use Rattle.folders.specs.declared.fault.Fault.{Fault}
-use Rattle.folders.specs.declared.fault.Fault.TheVariants.{BadPackage, CannotRead, CannotWrite, CannotWriteFile, CertificateNotJson, CertificateWrongShape, CertificateWrongVersion, CertificateTooOld, FactsNotJson, FactsWrongShape, FactsWrongVersion, FactsReserved, FactsNameGiven, ListNotJson, ListWrongShape, ListIncomplete, TwoPackages, TooManyPackages, NoThread, OutOfMemory}
+use Rattle.folders.specs.declared.fault.Fault.TheVariants.{BadPackage, BaselineNotJson, BaselineWrongShape, CannotRead, CannotWrite, CannotWriteFile, CertificateNotJson, CertificateWrongShape, CertificateWrongVersion, CertificateTooOld, FactsNotJson, FactsWrongShape, FactsWrongVersion, FactsReserved, FactsNameGiven, ListNotJson, ListWrongShape, ListIncomplete, TwoPackages, TooManyPackages, NoThread, OutOfMemory}
 use Rattle.command_line.specs.Words.{option_texts, texts_of, AsksForCertificates, AsksForCheck, AsksForExplanation, AsksForHelp, AsksForVerification}
 use Rattle.command_line.specs.declared.words.CertifyWords.{CertifyWords}
 use Rattle.command_line.specs.declared.words.CheckWords.{CheckWords}
 use Rattle.command_line.specs.declared.words.Sources.{Sources}
 use Rattle.command_line.specs.declared.words.VerifyWords.{VerifyWords}
 use Rattle.workers.specs.Counts.{count_of}
+use Rattle.driver.specs.BaselinesRead.{HaveBaselineFault}
 use Rattle.driver.specs.Certificates.{HaveFault, StandIn}
 use Rattle.driver.specs.DeclaredFacts.{HaveFactsFault}
 use Rattle.driver.specs.PackageLists.{HaveListFault}
@@ -80,9 +81,13 @@ pub record IsGivenFault (sources : Sources) (workers : ℕ) (fault : Fault) : Ty
 abbrev pub HasBadSource : Sources → Type 0
 HasBadSource sources = HasBadWord (texts_of sources.packages.items)
 
--- each of them names one, and the fault is that of the bytes of a file of declared facts, or of a list of packages
+-- each of them names one, and the fault is that of the bytes of a file of declared facts, of the report of an earlier
+-- run, or of a list of packages
 abbrev pub IsFactsFaultOf : Sources → Fault → Type 0
 IsFactsFaultOf sources fault = (HasBadSource sources → ⊥) × HaveFactsFault (option_texts sources.facts) fault
+
+abbrev pub IsBaselineFaultOf : Sources → Fault → Type 0
+IsBaselineFaultOf sources fault = (HasBadSource sources → ⊥) × HaveBaselineFault (option_texts sources.baseline) fault
 
 abbrev pub IsListFaultOf : Sources → Fault → Type 0
 IsListFaultOf sources fault = (HasBadSource sources → ⊥) × HaveListFault (option_texts sources.list) fault
@@ -96,6 +101,8 @@ IsCheckFault sources workers FactsNotJson = IsFactsFaultOf sources FactsNotJson
 IsCheckFault sources workers FactsWrongShape = IsFactsFaultOf sources FactsWrongShape
 IsCheckFault sources workers FactsWrongVersion = IsFactsFaultOf sources FactsWrongVersion
 IsCheckFault sources workers (FactsReserved text) = IsFactsFaultOf sources (FactsReserved text)
+IsCheckFault sources workers BaselineNotJson = IsBaselineFaultOf sources BaselineNotJson
+IsCheckFault sources workers BaselineWrongShape = IsBaselineFaultOf sources BaselineWrongShape
 IsCheckFault sources workers ListNotJson = IsListFaultOf sources ListNotJson
 IsCheckFault sources workers ListWrongShape = IsListFaultOf sources ListWrongShape
 IsCheckFault sources workers (ListIncomplete text) = IsListFaultOf sources (ListIncomplete text)
@@ -134,7 +141,7 @@ pub record IsVerifiedFault (sources : Sources) (fault : Fault) : Type 0 where
   pub stand_in : StandIn certificates
   pub is_fault : IsVerdictFault (packages_of outside) given certificates fault
 
--- the fault of a file's bytes, which are no certificates, no declared facts or no list of packages
+-- the fault of a file's bytes, which are no certificates, no declared facts, no report or no list of packages
 abbrev pub is_of_bytes : Fault → Bool
 is_of_bytes CertificateNotJson = true
 is_of_bytes CertificateWrongShape = true
@@ -143,6 +150,8 @@ is_of_bytes FactsNotJson = true
 is_of_bytes FactsWrongShape = true
 is_of_bytes FactsWrongVersion = true
 is_of_bytes (FactsReserved text) = true
+is_of_bytes BaselineNotJson = true
+is_of_bytes BaselineWrongShape = true
 is_of_bytes ListNotJson = true
 is_of_bytes ListWrongShape = true
 is_of_bytes (ListIncomplete text) = true
@@ -164,6 +173,8 @@ IsReadingFault sources FactsNotJson = IsFactsFaultOf sources FactsNotJson
 IsReadingFault sources FactsWrongShape = IsFactsFaultOf sources FactsWrongShape
 IsReadingFault sources FactsWrongVersion = IsFactsFaultOf sources FactsWrongVersion
 IsReadingFault sources (FactsReserved text) = IsFactsFaultOf sources (FactsReserved text)
+IsReadingFault sources BaselineNotJson = IsBaselineFaultOf sources BaselineNotJson
+IsReadingFault sources BaselineWrongShape = IsBaselineFaultOf sources BaselineWrongShape
 IsReadingFault sources ListNotJson = IsListFaultOf sources ListNotJson
 IsReadingFault sources ListWrongShape = IsListFaultOf sources ListWrongShape
 IsReadingFault sources (ListIncomplete text) = IsListFaultOf sources (ListIncomplete text)

@@ -8,7 +8,8 @@ use Rattle.command_line.specs.Words.{option_texts}
 use Rattle.command_line.specs.declared.words.Sources.{Sources}
 use Rattle.folders.specs.Names.{IsPrintable}
 use Rattle.folders.specs.declared.fault.Fault.{Fault}
-use Rattle.folders.specs.declared.fault.Fault.TheVariants.{BadPackage, CannotRead, ListNotJson, ListWrongShape, ListIncomplete, OutOfMemory}
+use Rattle.folders.specs.declared.fault.Fault.TheVariants.{BadPackage, BaselineNotJson, BaselineWrongShape, CannotRead, ListNotJson, ListWrongShape, ListIncomplete, OutOfMemory}
+use Rattle.driver.specs.BaselinesRead.{HaveBaselineFault}
 use Rattle.driver.specs.DeclaredFacts.{IsReadFactsFault}
 
 -- no line could name the path of one of them
@@ -51,8 +52,11 @@ IsReadListFault lists (CannotRead name) = ⊤
 IsReadListFault lists OutOfMemory = ⊤
 IsReadListFault lists fault = HaveListFault lists fault
 
--- the fault of what is read for a report of these sources: of declared facts, of a list, and of folders and files
+-- the fault of what is read for a report of these sources: of declared facts, of the report of an earlier run, of a
+-- list, and of folders and files
 abbrev pub IsReadSourcesFault : Sources → Fault → Type 0
+IsReadSourcesFault sources BaselineNotJson = HaveBaselineFault (option_texts sources.baseline) BaselineNotJson
+IsReadSourcesFault sources BaselineWrongShape = HaveBaselineFault (option_texts sources.baseline) BaselineWrongShape
 IsReadSourcesFault sources ListNotJson = HaveListFault (option_texts sources.list) ListNotJson
 IsReadSourcesFault sources ListWrongShape = HaveListFault (option_texts sources.list) ListWrongShape
 IsReadSourcesFault sources (ListIncomplete text) = HaveListFault (option_texts sources.list) (ListIncomplete text)

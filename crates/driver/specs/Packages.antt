@@ -17,6 +17,7 @@ use Rattle.folders.specs.declared.whole_files.ReadFile.{ReadFile}
 use Rattle.package_list.specs.ListTexts.{first_incomplete, AreListedIn}
 use Rattle.package_list.specs.ListedValues.{PackageEntry}
 use Rattle.declared_json.specs.declared.outside.DeclaredPackages.{DeclaredPackages}
+use Rattle.driver.specs.BaselinesRead.{AreKnownBy}
 use Rattle.driver.specs.DeclaredFacts.{AreDeclaredBy}
 use Rattle.driver.specs.declared.input.FilesRead.{FilesRead}
 use Rattle.driver.specs.declared.packages.NamedPackage.{NamedPackage}
@@ -28,12 +29,14 @@ abbrev pub edition_or : Edition → Option Edition → Edition
 edition_or usual None = usual
 edition_or usual (Some asked) = asked
 
--- packages of words by the first edition, and those of a list by the second, unless one is asked for
-abbrev pub edition_of_words : Sources → Edition
-edition_of_words sources = edition_or First sources.edition
+-- by the second edition where a list is named, and else by the first one, unless one is asked for
+abbrev pub usual_edition : List (List ℕ) → Edition
+usual_edition [] = First
+usual_edition (list ∷ lists) = Second
 
-abbrev pub edition_of_lists : Sources → Edition
-edition_of_lists sources = edition_or Second sources.edition
+-- all packages of a run are judged by one edition
+abbrev pub edition_of_run : Sources → Edition
+edition_of_run sources = edition_or (usual_edition (option_texts sources.list)) sources.edition
 
 -- Packages of words
 
@@ -105,13 +108,15 @@ pub record AreGiven (sources : Sources) (list : Option ReadFile) (given : List G
   pub packages : List NamedPackage
   pub are_named : AreNamed (texts_of sources.packages.items) packages
   pub of_words : List GivenPackage
-  pub are_read : AreRead (edition_of_words sources) packages of_words
+  pub are_read : AreRead (edition_of_run sources) packages of_words
   pub entries : List PackageEntry
   pub are_listed : AreListedBy (option_texts sources.list) list entries
-  pub of_list : AddListed (edition_of_lists sources) entries of_words given
+  pub of_list : AddListed (edition_of_run sources) entries of_words given
 
--- What was read: the files that the words name beside those of packages, what these declare, and the packages.
+-- What was read: the files that the words name beside those of packages, what these declare, and the packages. The
+-- findings of an earlier run are among these files.
 pub record AreReadFor (sources : Sources) (files : FilesRead) (outside : DeclaredPackages) (given : List GivenPackage)
     : Type 0 where
   pub are_declared : AreDeclaredBy (option_texts sources.facts) files.facts outside
+  pub are_known : AreKnownBy (option_texts sources.baseline) files.baseline
   pub are_given : AreGiven sources files.list given

@@ -1,12 +1,15 @@
 -- What a call of the go command has written when it ends, and with which fault: a list of flags; a line that tells
 -- which program this is; or the diagnostics of a unit, after what is kept of it was written to the file that it names.
-use Rattle.std.specs.Prelude.{◌≡◌, ◌⊎◌, ⊤, ℕ, Bool, true, false, if◌then◌else◌, List, [], ◌++◌, Option, codes, filter, string_bytes}
+use Rattle.std.specs.Prelude.{◌≡◌, ◌⊎◌, ⊤, ℕ, Bool, true, false, if◌then◌else◌, List, [], ◌∷◌, ◌++◌, Option, codes, filter, string_bytes}
 use Rattle.std.specs.Io.KnownBytes.{Appends}
 use Rattle.std.specs.List.{AllZip}
 use Rattle.command_line.specs.VetViews.{flags_of}
 use Rattle.command_line.specs.VetWords.{Flags, VetCall, asks_flags, asks_version, asks_unit, has_wrong}
 use Rattle.command_line.specs.Words.{edition_number}
+use Rattle.baseline_json.specs.declared.baseline.BaselineFinding.{BaselineFinding}
 use Rattle.command_line.specs.declared.vet_told.UnitFlags.{UnitFlags}
+use Rattle.command_line.specs.declared.words.ReportWords.{ReportWords}
+use Rattle.report.specs.declared.format.Format.TheVariants as Format
 use Rattle.declared_json.specs.DeclaredPackages.{packages_of}
 use Rattle.folders.specs.ReadFiles.{bytes_read}
 use Rattle.folders.specs.WrittenFiles.{name_of, text_of}
@@ -19,8 +22,9 @@ use Rattle.judge.specs.UnitLaws.{IsKeptOf}
 use Rattle.judge.specs.declared.one_unit.UnitReportFault.{UnitReportFault}
 use Rattle.judge.specs.declared.one_unit.UnitReportFault.TheVariants as unit_fault
 use Rattle.judge.specs.declared.units.ImportedUnit.{ImportedUnit}
-use Rattle.judge.specs.declared.units.UnitForm.{UnitForm}
-use Rattle.judge.specs.declared.units.UnitForm.TheVariants.{Text, Explained, Json}
+use Rattle.told_reports.specs.declared.unit.UnitForm.{UnitForm}
+use Rattle.told_reports.specs.declared.unit.UnitShape.{UnitShape}
+use Rattle.told_reports.specs.declared.unit.UnitShape.TheVariants.{Text, Json}
 use Rattle.judge.specs.declared.units.UnitReport.{UnitReport}
 use Rattle.unit_config.specs.UnitValues.{unit_of, UnitEntry}
 use Rattle.unit_reading.specs.ToldImports.{counts_in}
@@ -34,6 +38,7 @@ use Rattle.driver.specs.Digests.{digest_text}
 use Rattle.driver.specs.Faults.{fault_of_load}
 use Rattle.driver.specs.Printing.{is_of_writing, AppendsFront}
 use Rattle.driver.specs.Statuses.{status_of}
+use Rattle.driver.specs.Tellings.{IsTellingOf}
 use Rattle.driver.specs.UnitsRead.{edition_of_unit, IsInputFaultOf, IsInputOf}
 use Rattle.driver.specs.declared.status.Status.{Status}
 use Rattle.driver.specs.declared.status.Status.TheVariants.{Fine, Faulty}
@@ -53,13 +58,18 @@ AreCounted module_path told imports = AllZip IsCounted (filter (counts_in module
 
 -- How a unit is told
 
--- reasons are told in a text alone
-abbrev pub IsFormOf : UnitFlags → List ℕ → UnitForm → Type 0
-IsFormOf flags id (Text around) =
-    (flags.is_json ≡ false) × (flags.with_reasons ≡ false) × (around ≡ flags.lines)
-IsFormOf flags id (Explained around) =
-    (flags.is_json ≡ false) × (flags.with_reasons ≡ true) × (around ≡ flags.lines)
-IsFormOf flags id (Json name) = (flags.is_json ≡ true) × (name.now ≡ id)
+abbrev pub IsShapeOf : UnitFlags → List ℕ → UnitShape → Type 0
+IsShapeOf flags id (Text around) = (flags.is_json ≡ false) × (around ≡ flags.lines)
+IsShapeOf flags id (Json name) = (flags.is_json ≡ true) × (name.now ≡ id)
+
+abbrev pub words_of : UnitFlags → ReportWords
+words_of flags = record { format = Format.Text; accepted = flags.accepted; quiet = flags.quiet }
+
+-- as the flags ask for it, where these findings of an earlier run are accepted
+pub record IsFormOf (flags : UnitFlags) (id : List ℕ) (known : List BaselineFinding) (form : UnitForm) : Type 0 where
+  pub is_telling : IsTellingOf (edition_of_unit flags) (words_of flags) true known form.telling
+  pub has_reasons : form.with_reasons ≡ flags.with_reasons
+  pub is_shape : IsShapeOf flags id form.shape
 
 -- the text is that of the unit's report, and what is kept of the unit is what the report found, and by what it was
 -- judged; what is kept does not depend on how, or whether, the report is told
@@ -67,7 +77,7 @@ pub record IsJudgedSo (flags : UnitFlags) (unit : UnitEntry) (input : UnitInput)
   pub imports : List ImportedUnit
   pub are_imports : AreCounted (string_bytes input.module_path) input.told.items imports
   pub form : UnitForm
-  pub is_form : IsFormOf flags unit.id form
+  pub is_form : IsFormOf flags unit.id input.baseline.findings.items form
   pub report : UnitReport
   pub is_report : IsReportOfUnit form (packages_of input.outside) imports input.given report
   pub is_text : judged.text.items ≡ report.text.items
@@ -92,9 +102,14 @@ pub record HoldsKept (unit : UnitEntry) (kept : Vetx) (file : WrittenFile) : Typ
 abbrev pub said_of : UnitEntry → JudgedUnit → List ℕ
 said_of unit judged = if unit.is_silent then [] else judged.text.items
 
+-- nothing was found that is told
+abbrev pub is_empty : List ℕ → Bool
+is_empty [] = true
+is_empty (b ∷ bs) = false
+
 abbrev pub unit_status : UnitFlags → UnitEntry → JudgedUnit → Status
 unit_status flags unit judged =
-    if unit.is_silent then Fine else if flags.is_json then Fine else status_of judged.kept.is_yes
+    if unit.is_silent then Fine else if flags.is_json then Fine else status_of (is_empty judged.text.items)
 
 -- this holds of the unit, by these flags: of what was read for it, and how it was judged
 pub record ForUnit (flags : UnitFlags) (unit : UnitEntry) (holds : JudgedUnit → Type 0) : Type 0 where
@@ -181,7 +196,13 @@ flag_list =
     ++ (codes ",\n" ++ (flag_value (codes "c") (codes "false") (codes "show this many lines around each place")
     ++ (codes ",\n" ++ (flag_value (codes "tests") (codes "true") (codes "read test files too")
     ++ (codes ",\n" ++ (flag_value (codes "why") (codes "true") (codes "tell below each finding why it stands there")
-    ++ codes "]\n")))))))))))
+    ++ (codes ",\n"
+    ++ (flag_value (codes "accepted") (codes "true") (codes "tell accepted findings too, with their reasons")
+    ++ (codes ",\n" ++ (flag_value (codes "baseline") (codes "false")
+    (codes "accept the findings of this report in JSON, by its absolute name")
+    ++ (codes ",\n" ++ (flag_value (codes "quiet") (codes "true")
+    (codes "leave out the lines of packages without findings")
+    ++ codes "]\n")))))))))))))))))
 
 -- which program this is, by its own file: the go command takes the whole line for it
 abbrev pub version_line : ReadFile → List ℕ

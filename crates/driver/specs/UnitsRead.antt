@@ -1,5 +1,5 @@
--- What is read for a unit, once its file was: the declared facts, what is kept of the packages that it imports, its
--- module, and its Go files. Which bytes a file has, no contract can say.
+-- What is read for a unit, once its file was: the declared facts, the findings of an earlier run, what is kept of the
+-- packages that it imports, its module, and its Go files. Which bytes a file has, no contract can say.
 use Rattle.std.specs.Prelude.{◌≡◌, ⊤, Option, string_bytes}
 use Rattle.command_line.specs.Words.{edition_number, option_texts}
 use Rattle.command_line.specs.declared.vet_told.UnitFlags.{UnitFlags}
@@ -8,7 +8,7 @@ use Rattle.folders.specs.GoModules.{IsModulePath}
 use Rattle.folders.specs.ListedFiles.{AreFilesOf}
 use Rattle.folders.specs.UnitFiles.{picked_files}
 use Rattle.folders.specs.declared.fault.Fault.{Fault}
-use Rattle.folders.specs.declared.fault.Fault.TheVariants.{CannotRead, FactsNotJson, FactsWrongShape, FactsWrongVersion, FactsReserved, OutOfMemory}
+use Rattle.folders.specs.declared.fault.Fault.TheVariants.{BaselineNotJson, BaselineWrongShape, CannotRead, FactsNotJson, FactsWrongShape, FactsWrongVersion, FactsReserved, OutOfMemory}
 use Rattle.folders.specs.declared.whole_files.ReadFile.{ReadFile}
 use Rattle.load.specs.declared.packages.GivenPackage.{GivenPackage}
 use Rattle.tree.specs.declared.edition.Edition.{Edition}
@@ -16,6 +16,7 @@ use Rattle.tree.specs.declared.edition.Edition.TheVariants.{Second}
 use Rattle.unit_config.specs.UnitValues.{UnitEntry}
 use Rattle.unit_reading.specs.ToldImports.{AreTold, HaveVetxFault}
 use Rattle.unit_reading.specs.UnitsTold.{without_suffix}
+use Rattle.driver.specs.BaselinesRead.{AreLocatedBy, HaveBaselineFault}
 use Rattle.driver.specs.DeclaredFacts.{AreDeclaredBy, HaveFactsFault}
 use Rattle.driver.specs.Digests.{digest_in}
 use Rattle.driver.specs.Packages.{edition_or}
@@ -34,6 +35,7 @@ pub record IsPackageOf (flags : UnitFlags) (unit : UnitEntry) (given : GivenPack
 pub record IsInputOf (flags : UnitFlags) (unit : UnitEntry) (input : UnitInput) : Type 0 where
   pub are_declared : AreDeclaredBy (option_texts flags.facts) input.facts input.outside
   pub is_digest : string_bytes input.digest ≡ digest_in input.facts
+  pub are_known : AreLocatedBy (option_texts flags.baseline) input.baseline
   pub are_told : AreTold (edition_number (edition_of_unit flags)) (digest_in input.facts) unit input.told.items
   pub is_module : IsModulePath unit.folder (string_bytes input.module_path)
   pub is_package : IsPackageOf flags unit input.given
@@ -52,5 +54,7 @@ IsInputFaultOf flags unit FactsNotJson = HaveFactsFault (option_texts flags.fact
 IsInputFaultOf flags unit FactsWrongShape = HaveFactsFault (option_texts flags.facts) FactsWrongShape
 IsInputFaultOf flags unit FactsWrongVersion = HaveFactsFault (option_texts flags.facts) FactsWrongVersion
 IsInputFaultOf flags unit (FactsReserved text) = HaveFactsFault (option_texts flags.facts) (FactsReserved text)
+IsInputFaultOf flags unit BaselineNotJson = HaveBaselineFault (option_texts flags.baseline) BaselineNotJson
+IsInputFaultOf flags unit BaselineWrongShape = HaveBaselineFault (option_texts flags.baseline) BaselineWrongShape
 IsInputFaultOf flags unit OutOfMemory = ⊤
 IsInputFaultOf flags unit fault = IsVetxFaultOf flags unit fault

@@ -5,6 +5,7 @@
 -- where it can't be, all of the report is written.
 use Rattle.std.specs.Prelude.{◌≡◌, ◌⊎◌, ℕ, Bool, true, false, List, Option, Some, None}
 use Rattle.std.specs.Io.KnownBytes.{Appends}
+use Rattle.accepting.specs.declared.telling.Telling.{Telling}
 use Rattle.certificate_json.specs.declared.certificates.Certificates.{Certificates}
 use Rattle.load.specs.declared.packages.GivenPackage.{GivenPackage}
 use Rattle.declared_json.specs.DeclaredPackages.{packages_of}
@@ -13,9 +14,9 @@ use Rattle.command_line.specs.VetWords.{vet_call, VetCall}
 use Rattle.command_line.specs.Words.{AsksForCertificates, AsksForCheck, AsksForExplanation, AsksForHelp, AsksForVerification}
 use Rattle.command_line.specs.declared.words.CertifyWords.{CertifyWords}
 use Rattle.command_line.specs.declared.words.CheckWords.{CheckWords}
+use Rattle.command_line.specs.declared.words.ReportWords.{ReportWords}
 use Rattle.command_line.specs.declared.words.Sources.{Sources}
 use Rattle.command_line.specs.declared.words.VerifyWords.{VerifyWords}
-use Rattle.report_formats.specs.declared.formats.Format.{Format}
 use Rattle.folders.specs.declared.fault.Fault.{Fault}
 use Rattle.folders.specs.declared.fault.Fault.TheVariants.{CannotWrite, CannotWriteFile}
 use Rattle.judge.specs.Certified.{IsCertifiedReport}
@@ -24,17 +25,19 @@ use Rattle.judge.specs.declared.explained.ExplainedReport.{ExplainedReport}
 use Rattle.judge.specs.Verified.{IsVerifiedReport}
 use Rattle.judge.specs.Reports.{IsReport, Report}
 use Rattle.driver.specs.Certificates.{StandIn}
-use Rattle.driver.specs.Packages.{AreReadFor}
+use Rattle.driver.specs.Packages.{edition_of_run, AreReadFor}
 use Rattle.driver.specs.declared.input.FilesRead.{FilesRead}
 use Rattle.driver.specs.Faults.{IsRunFault, LeavesUnwritten}
 use Rattle.driver.specs.Printing.{AppendsFront}
+use Rattle.driver.specs.Tellings.{IsTellingOf}
 use Rattle.driver.specs.UnitRuns.{DoesCall, FailsByCall}
 use Rattle.driver.specs.declared.status.Status.{Status}
 use Rattle.driver.specs.declared.status.Status.TheVariants.{Fine, Found, Faulty}
 
--- this report, with this verdict, was written to a writer that held `old` and holds `new`
+-- This report was written to a writer that held `old` and holds `new`. The verdict tells whether each package is told
+-- as yes or as accepted.
 abbrev pub IsWritten : Option (List ℕ) → Option (List ℕ) → Bool → Report → Type 0
-IsWritten old new verdict report = (report.yes ≡ verdict) × Appends old new report.text.items
+IsWritten old new verdict report = (report.passes ≡ verdict) × Appends old new report.text.items
 
 -- a beginning of this report was written, and nothing besides
 abbrev pub IsBegun : Option (List ℕ) → Option (List ℕ) → Report → Type 0
@@ -44,14 +47,20 @@ IsBegun old new report = AppendsFront old new report.text.items
 abbrev pub printed : ExplainedReport → Report
 printed told = record told.report { text = told.text }
 
-module _ (sources : Sources) (format : Format) (files : FilesRead) where
-  -- this holds of the report, in this form, on the packages of these sources, where these files were read for it
+module _ (sources : Sources) (words : ReportWords) (files : FilesRead) where
+  -- it is told as these words ask for it, with the findings of an earlier run that were read
+  abbrev pub IsToldSo : (is_check : Bool) → Telling → Type 0
+  IsToldSo is_check = IsTellingOf (edition_of_run sources) words is_check files.baseline.findings.items
+
+  -- this holds of the report, told so, on the packages of these sources, where these files were read for it
   pub record OfReport (holds : Report → Type 0) : Type 0 where
     pub given : List GivenPackage
     pub outside : DeclaredPackages
     pub are_read : AreReadFor sources files outside given
     pub report : Report
-    pub is_report : IsReport format (packages_of outside) given report
+    pub telling : Telling
+    pub is_telling : IsToldSo true telling
+    pub is_report : IsReport telling (packages_of outside) given report
     pub so : holds report
 
   -- the same where its text is printed with the notes of each finding
@@ -60,7 +69,9 @@ module _ (sources : Sources) (format : Format) (files : FilesRead) where
     pub outside : DeclaredPackages
     pub are_read : AreReadFor sources files outside given
     pub told : ExplainedReport
-    pub is_report : IsExplainedReport format (packages_of outside) given told
+    pub telling : Telling
+    pub is_telling : IsToldSo true telling
+    pub is_report : IsExplainedReport telling (packages_of outside) given told
     pub so : holds (printed told)
 
   -- the same where this is the text of their certificates
@@ -69,7 +80,9 @@ module _ (sources : Sources) (format : Format) (files : FilesRead) where
     pub outside : DeclaredPackages
     pub are_read : AreReadFor sources files outside given
     pub report : Report
-    pub is_report : IsCertifiedReport format (packages_of outside) given report text
+    pub telling : Telling
+    pub is_telling : IsToldSo true telling
+    pub is_report : IsCertifiedReport telling (packages_of outside) given report text
     pub so : holds report
 
   -- the same of their report by certificates that stand in a file
@@ -80,7 +93,9 @@ module _ (sources : Sources) (format : Format) (files : FilesRead) where
     pub certificates : Certificates
     pub stand_in : StandIn certificates
     pub report : Report
-    pub is_report : IsVerifiedReport format (packages_of outside) given certificates report
+    pub telling : Telling
+    pub is_telling : IsToldSo false telling
+    pub is_report : IsVerifiedReport telling (packages_of outside) given certificates report
     pub so : holds report
 
 -- the words ask to check packages, and this holds of their report
@@ -88,14 +103,14 @@ pub record OfCheck (words : List (List ℕ)) (holds : Report → Type 0) : Type 
   pub asked : CheckWords
   pub asks : AsksForCheck words asked
   pub files : FilesRead
-  pub report : OfReport asked.sources asked.format files holds
+  pub report : OfReport asked.sources asked.report files holds
 
 -- the words ask to check packages and to tell why, and this holds of what is printed
 pub record OfExplain (words : List (List ℕ)) (holds : Report → Type 0) : Type 0 where
   pub asked : CheckWords
   pub asks : AsksForExplanation words asked
   pub files : FilesRead
-  pub report : OfExplainedReport asked.sources asked.format files holds
+  pub report : OfExplainedReport asked.sources asked.report files holds
 
 -- the words ask to check packages and to write certificates, and this holds of the report
 pub record OfCertify (words : List (List ℕ)) (holds : Report → Type 0) : Type 0 where
@@ -103,14 +118,14 @@ pub record OfCertify (words : List (List ℕ)) (holds : Report → Type 0) : Typ
   pub asks : AsksForCertificates words asked
   pub files : FilesRead
   pub text : List ℕ
-  pub report : OfCertifiedReport asked.sources asked.format files text holds
+  pub report : OfCertifiedReport asked.sources asked.report files text holds
 
 -- the words ask to judge packages by certificates, and this holds of the report
 pub record OfVerify (words : List (List ℕ)) (holds : Report → Type 0) : Type 0 where
   pub asked : VerifyWords
   pub asks : AsksForVerification words asked
   pub files : FilesRead
-  pub report : OfVerifiedReport asked.sources asked.format files holds
+  pub report : OfVerifiedReport asked.sources asked.report files holds
 
 -- this holds of the report for which the words ask
 abbrev pub OfAsked : List (List ℕ) → (Report → Type 0) → Type 0

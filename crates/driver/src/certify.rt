@@ -10,11 +10,12 @@ ghost use Rattle.folders.specs.declared.whole_files.Reach.TheVariants.{Disk};
 ghost use Rattle.folders.specs.WrittenFiles.{name_of, reach_of, text_of};
 ghost use Rattle.workers.specs.Counts.{count_of};
 
-use crate::input::{FilesRead, read_sources};
+use crate::input::{FilesRead, Input, edition_of_run, read_sources};
 use crate::notes::note;
 use crate::printing::print;
 use crate::reports::certified_report_by_workers;
 use crate::status::Status;
+use crate::telling::telling_of;
 use crate::writers::Refusals;
 use command_line::CertifyWords;
 use folders::{Fault, Surroundings, UnwrittenFile, WrittenFile, write_file};
@@ -50,7 +51,7 @@ pub fn certify<
     refusals: &mut Refusals,
 ) -> Result<Certified<'a>, Fault>
     ensures written { IfOk result (λ done. (yes : Bool) × (done.status ≡ status_of yes)
-        × OfCertifiedReport asked.now.sources asked.now.format done.files
+        × OfCertifiedReport asked.now.sources asked.now.report done.files
         (text_of done.file) (IsWritten (W.contents out.old) (W.contents out.new) yes)) }
     ensures file { IfOk result (λ done. name_of done.file ≡ asked.now.file.now) }
     ensures reach { IfOk result (λ done. reach_of done.file ≡ Disk) }
@@ -58,28 +59,35 @@ pub fn certify<
     ensures unwritten { IfErr result (λ fault. LeavesUnwritten fault (W.contents out.old) (W.contents out.new)) }
     ensures begun { IfErr result (λ fault. fault ≡ Fault.CannotWrite
         → (files : FilesRead) × (text : List ℕ)
-        × OfCertifiedReport asked.now.sources asked.now.format files text
+        × OfCertifiedReport asked.now.sources asked.now.report files text
         (IsBegun (W.contents out.old) (W.contents out.new))) }
     ensures whole { IfErr result (λ fault. (name : _) → fault ≡ Fault.CannotWriteFile name
         → (yes : Bool) × (files : FilesRead) × (text : List ℕ)
-        × OfCertifiedReport asked.now.sources asked.now.format files text
+        × OfCertifiedReport asked.now.sources asked.now.report files text
         (IsWritten (W.contents out.old) (W.contents out.new) yes)) }
     ensures refused { refusals.new.any ≡ refused_by refusals.old.any result }
 {
     let input = read_sources(rt, &asked.sources)?;
     let file = UnwrittenFile::named(rt.alloc(), asked.file)?;
+    let Input {
+        files,
+        outside,
+        given,
+        empty,
+    } = input;
+    let known = &files.baseline.findings;
     let settings = Settings {
         workers: asked.workers,
-        format: asked.format,
+        telling: telling_of(edition_of_run(&asked.sources), asked.report, true, known),
     };
-    let told = certified_report_by_workers::<R, L>(rt, input.given, input.outside, settings)?;
+    let told = certified_report_by_workers::<R, L>(rt, given, outside, settings)?;
     print(out, &told.report.text, refusals)?;
-    note(&input.files, &input.empty, told.report.counts, err);
-    let status = Status::of_verdict(told.report.yes);
+    note(rt.alloc(), &files, &empty, told.report.counts, err);
+    let status = Status::of_verdict(told.report.passes);
     let file = write_file(rt, file, told.certificates)?;
     Ok(Certified {
         status,
-        files: input.files,
+        files,
         file,
     })
 }

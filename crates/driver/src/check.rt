@@ -8,11 +8,12 @@ ghost use Rattle.driver.specs.Statuses.{status_of};
 ghost use Rattle.driver.specs.WrittenReport.{IsBegun, IsWritten, OfReport};
 ghost use Rattle.workers.specs.Counts.{count_of};
 
-use crate::input::{FilesRead, read_sources};
+use crate::input::{FilesRead, Input, edition_of_run, read_sources};
 use crate::notes::note;
 use crate::printing::print;
 use crate::reports::report_by_workers;
 use crate::status::Status;
+use crate::telling::telling_of;
 use crate::writers::Refusals;
 use command_line::CheckWords;
 use folders::{Fault, Surroundings};
@@ -45,24 +46,31 @@ pub fn check<
     refusals: &mut Refusals,
 ) -> Result<Checked<'a>, Fault>
     ensures written { IfOk result (λ done. (yes : Bool) × (done.status ≡ status_of yes)
-        × OfReport asked.now.sources asked.now.format done.files
+        × OfReport asked.now.sources asked.now.report done.files
         (IsWritten (W.contents out.old) (W.contents out.new) yes)) }
     ensures fault { IfErr result (IsCheckFault asked.now.sources (count_of asked.now.workers)) }
     ensures unwritten { IfErr result (λ fault. LeavesUnwritten fault (W.contents out.old) (W.contents out.new)) }
     ensures begun { IfErr result (λ fault. fault ≡ Fault.CannotWrite → (files : FilesRead)
-        × OfReport asked.now.sources asked.now.format files (IsBegun (W.contents out.old) (W.contents out.new))) }
+        × OfReport asked.now.sources asked.now.report files (IsBegun (W.contents out.old) (W.contents out.new))) }
     ensures refused { refusals.new.any ≡ refused_by refusals.old.any result }
 {
     let input = read_sources(rt, &asked.sources)?;
+    let Input {
+        files,
+        outside,
+        given,
+        empty,
+    } = input;
+    let known = &files.baseline.findings;
     let settings = Settings {
         workers: asked.workers,
-        format: asked.format,
+        telling: telling_of(edition_of_run(&asked.sources), asked.report, true, known),
     };
-    let report = report_by_workers::<R, L>(rt, input.given, input.outside, settings)?;
+    let report = report_by_workers::<R, L>(rt, given, outside, settings)?;
     print(out, &report.text, refusals)?;
-    note(&input.files, &input.empty, report.counts, err);
+    note(rt.alloc(), &files, &empty, report.counts, err);
     Ok(Checked {
-        status: Status::of_verdict(report.yes),
-        files: input.files,
+        status: Status::of_verdict(report.passes),
+        files,
     })
 }

@@ -9,11 +9,12 @@ ghost use Rattle.driver.specs.WrittenReport.{IsBegun, IsWritten, OfExplainedRepo
 ghost use Rattle.workers.specs.Counts.{count_of};
 
 use crate::check::Checked;
-use crate::input::read_sources;
+use crate::input::{Input, edition_of_run, read_sources};
 use crate::notes::note;
 use crate::printing::print;
 use crate::reports::explained_report_by_workers;
 use crate::status::Status;
+use crate::telling::telling_of;
 use crate::writers::Refusals;
 use command_line::CheckWords;
 use folders::{Fault, Surroundings};
@@ -40,25 +41,32 @@ pub fn explain<
     refusals: &mut Refusals,
 ) -> Result<Checked<'a>, Fault>
     ensures written { IfOk result (λ done. (yes : Bool) × (done.status ≡ status_of yes)
-        × OfExplainedReport asked.now.sources asked.now.format done.files
+        × OfExplainedReport asked.now.sources asked.now.report done.files
         (IsWritten (W.contents out.old) (W.contents out.new) yes)) }
     ensures fault { IfErr result (IsCheckFault asked.now.sources (count_of asked.now.workers)) }
     ensures unwritten { IfErr result (λ fault. LeavesUnwritten fault (W.contents out.old) (W.contents out.new)) }
     ensures begun { IfErr result (λ fault. fault ≡ Fault.CannotWrite → (files : FilesRead)
-        × OfExplainedReport asked.now.sources asked.now.format files
+        × OfExplainedReport asked.now.sources asked.now.report files
         (IsBegun (W.contents out.old) (W.contents out.new))) }
     ensures refused { refusals.new.any ≡ refused_by refusals.old.any result }
 {
     let input = read_sources(rt, &asked.sources)?;
+    let Input {
+        files,
+        outside,
+        given,
+        empty,
+    } = input;
+    let known = &files.baseline.findings;
     let settings = Settings {
         workers: asked.workers,
-        format: asked.format,
+        telling: telling_of(edition_of_run(&asked.sources), asked.report, true, known),
     };
-    let told = explained_report_by_workers::<R, L>(rt, input.given, input.outside, settings)?;
+    let told = explained_report_by_workers::<R, L>(rt, given, outside, settings)?;
     print(out, &told.text, refusals)?;
-    note(&input.files, &input.empty, told.report.counts, err);
+    note(rt.alloc(), &files, &empty, told.report.counts, err);
     Ok(Checked {
-        status: Status::of_verdict(told.report.yes),
-        files: input.files,
+        status: Status::of_verdict(told.report.passes),
+        files,
     })
 }

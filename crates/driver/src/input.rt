@@ -3,9 +3,10 @@
 ghost use Rattle.std.specs.Prelude.{◌≡◌, ℕ, false, true, IfErr, IfOk};
 ghost use Rattle.command_line.specs.Words.{option_texts, texts_of};
 ghost use Rattle.driver.specs.Faults.{is_of_bytes, is_of_output, IsCheckFault};
-ghost use Rattle.driver.specs.Packages.{edition_or, AreNamed, AreReadFor};
+ghost use Rattle.driver.specs.Packages.{edition_of_run, edition_or, usual_edition, AreNamed, AreReadFor};
 ghost use Rattle.driver.specs.PackageLists.{IsReadSourcesFault};
 
+use crate::baseline_input::{BaselineRead, read_baseline};
 use crate::facts_input::read_facts;
 use crate::list_input::read_packages_of_list;
 use crate::listed_packages::add_listed;
@@ -17,11 +18,12 @@ use load::GivenPackage;
 use std::rt::Files;
 use tree::Edition;
 
-/// The files that were read for a report beside those of packages, where they are named: that of declared facts, and
-/// the list of packages.
+/// The files that were read for a report beside those of packages, where they are named: that of declared facts, the
+/// report of an earlier run with its findings, and the list of packages.
 #[derive(Debug, Drop)]
 pub struct FilesRead<'a> {
     pub facts: Option<ReadFile<'a>>,
+    pub baseline: BaselineRead<'a>,
     pub list: Option<ReadFile<'a>>,
 }
 
@@ -44,14 +46,32 @@ pub fn edition_or(usual: Edition, asked: Option<Edition>) -> Edition
     }
 }
 
-/// Reads the file of declared facts, if one is named, after it the list of packages, if one is named, and then the
-/// folders of the packages that words name, which are these, and the files of the listed ones. Unless an edition is
-/// asked for, those of words are judged by the first one, and the listed ones by the second.
+/// The edition by which packages are judged, unless one is asked for: the second one where this list is named.
+fn usual_edition(list: Option<&str>) -> Edition
+    ensures { result ≡ usual_edition (option_texts list.entry) }
+{
+    match list {
+        Some(_) => Edition::Second,
+        None => Edition::First,
+    }
+}
+
+/// The edition by which all packages of these sources are judged.
+pub fn edition_of_run(sources: &Sources<'_>) -> Edition
+    ensures { result ≡ edition_of_run sources.now }
+{
+    edition_or(usual_edition(sources.list), sources.edition)
+}
+
+/// Reads the file of declared facts, if one is named, after it the report of an earlier run and the list of packages,
+/// if these are named, and then the folders of the packages that words name, which are these, and the files of the
+/// listed ones. All are judged by one edition.
 ///
 /// # Errors
 ///
-/// The first file can't be read, or its bytes are no declared facts; the list can't be read, or is none of packages; a
-/// folder can't be listed or a file can't be read; or memory was refused. It is the first of these.
+/// The first file can't be read, or its bytes are no declared facts; the second one can't be read, or is no report; the
+/// list can't be read, or is none of packages; a folder can't be listed or a file can't be read; or memory was refused.
+/// It is the first of these.
 pub fn read_input<'a, R: Files + AllocGlobal + Surroundings>(
     rt: &R,
     packages: &[NamedPackage<'a>],
@@ -64,15 +84,16 @@ pub fn read_input<'a, R: Files + AllocGlobal + Surroundings>(
     ensures order { IfErr result (λ fault. is_of_bytes fault ≡ true → folders.new.any ≡ folders.old.any) }
 {
     let declared = read_facts(rt, sources.facts)?;
+    let baseline = read_baseline(rt, sources.baseline)?;
     let listed = read_packages_of_list(rt, sources.list)?;
     let mut empty = Vec::new(rt.alloc());
-    let of_words = edition_or(Edition::First, sources.edition);
-    let of_lists = edition_or(Edition::Second, sources.edition);
-    let mut given = read_packages(rt, of_words, packages, &mut empty, folders)?;
-    add_listed(rt, of_lists, &listed.packages, &mut given, &mut empty)?;
+    let edition = edition_of_run(sources);
+    let mut given = read_packages(rt, edition, packages, &mut empty, folders)?;
+    add_listed(rt, edition, &listed.packages, &mut given, &mut empty)?;
     Ok(Input {
         files: FilesRead {
             facts: declared.file,
+            baseline,
             list: listed.file,
         },
         outside: declared.outside,

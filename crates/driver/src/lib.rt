@@ -2,6 +2,7 @@
 //! certificates, and reads them and declared facts.
 #![tactic(auto)]
 
+mod baseline_input;
 mod certificate_input;
 mod certify;
 mod check;
@@ -17,6 +18,7 @@ mod printing;
 mod program;
 mod reports;
 mod status;
+mod telling;
 mod unit_input;
 mod unit_laws;
 mod unit_report;
@@ -25,7 +27,7 @@ mod vet;
 mod writers;
 
 pub use folders::{Fault, Surroundings, words_fault};
-pub use judge::{Counts, Format, Report};
+pub use judge::{Counts, Report, Telling};
 pub use load::{GivenPackage, Leave, ToTheEnd};
 pub use program::{refuse, run, run_leaving};
 pub use reports::report_of;

@@ -13,7 +13,7 @@ use crate::facts_input::nothing_declared;
 use certificate_json::Certificates;
 use declared_json::DeclaredPackages;
 use folders::Fault;
-use judge::{CertifiedReport, CheckFault, ExplainedReport, Format, Report, Settings, VerifyFault};
+use judge::{CertifiedReport, CheckFault, ExplainedReport, Report, Settings, Telling, VerifyFault};
 use load::{GivenPackage, Leave, LoadFault};
 use std::alloc::Global;
 use std::sync::Wait;
@@ -31,18 +31,22 @@ pub(crate) fn fault_of_load(fault: LoadFault) -> Fault
     }
 }
 
-/// The report of these packages as a text, in the order of their paths, where nothing is declared of others. No thread
-/// is started.
+/// The report of these packages, in the order of their paths, where nothing is declared of others. No thread is
+/// started.
 ///
 /// # Errors
 ///
 /// There are more than 10,000 packages, or more than 4,294,967,295 files of one; two packages have one path; or memory
 /// was refused.
-pub fn report_of(alloc: Global, given: Vec<GivenPackage>) -> Result<Report, Fault>
-    ensures report { IfOk result (IsReport Format.Text [] given.items) }
+pub fn report_of(
+    alloc: Global,
+    given: Vec<GivenPackage>,
+    telling: Telling<'_>,
+) -> Result<Report, Fault>
+    ensures report { IfOk result (IsReport telling.entry [] given.items) }
     ensures fault { IfErr result (IsReportFault [] given.items) }
 {
-    match judge::report_of(alloc, given, nothing_declared(alloc), Format::Text) {
+    match judge::report_of(alloc, given, nothing_declared(alloc), telling) {
         Ok(report) => Ok(report),
         Err(fault) => Err(fault_of_load(fault)),
     }
@@ -69,10 +73,11 @@ pub fn report_by_workers<R: AllocGlobal + Threads + Wait + Sync, L: Leave>(
     rt: &R,
     given: Vec<GivenPackage>,
     outside: DeclaredPackages,
-    settings: Settings,
+    settings: Settings<'_>,
 ) -> Result<Report, Fault>
-    ensures report { IfOk result (IsReport settings.format (packages_of outside) given.items) }
-    ensures fault { IfErr result (IsSharedReportFault (packages_of outside) given.items (count_of settings.workers)) }
+    ensures report { IfOk result (IsReport settings.entry.telling (packages_of outside) given.items) }
+    ensures fault { IfErr result
+        (IsSharedReportFault (packages_of outside) given.items (count_of settings.entry.workers)) }
 {
     match judge::report_by_workers::<R, L>(rt, rt.alloc(), given, outside, settings) {
         Ok(report) => Ok(report),
@@ -90,10 +95,11 @@ pub fn explained_report_by_workers<R: AllocGlobal + Threads + Wait + Sync, L: Le
     rt: &R,
     given: Vec<GivenPackage>,
     outside: DeclaredPackages,
-    settings: Settings,
+    settings: Settings<'_>,
 ) -> Result<ExplainedReport, Fault>
-    ensures report { IfOk result (IsExplainedReport settings.format (packages_of outside) given.items) }
-    ensures fault { IfErr result (IsSharedReportFault (packages_of outside) given.items (count_of settings.workers)) }
+    ensures report { IfOk result (IsExplainedReport settings.entry.telling (packages_of outside) given.items) }
+    ensures fault { IfErr result
+        (IsSharedReportFault (packages_of outside) given.items (count_of settings.entry.workers)) }
 {
     match judge::explained_report_by_workers::<R, L>(rt, rt.alloc(), given, outside, settings) {
         Ok(told) => Ok(told),
@@ -111,11 +117,12 @@ pub fn certified_report_by_workers<R: AllocGlobal + Threads + Wait + Sync, L: Le
     rt: &R,
     given: Vec<GivenPackage>,
     outside: DeclaredPackages,
-    settings: Settings,
+    settings: Settings<'_>,
 ) -> Result<CertifiedReport, Fault>
-    ensures report { IfOk result (λ told. IsCertifiedReport settings.format (packages_of outside) given.items
+    ensures report { IfOk result (λ told. IsCertifiedReport settings.entry.telling (packages_of outside) given.items
         told.report (string_bytes told.certificates)) }
-    ensures fault { IfErr result (IsSharedReportFault (packages_of outside) given.items (count_of settings.workers)) }
+    ensures fault { IfErr result
+        (IsSharedReportFault (packages_of outside) given.items (count_of settings.entry.workers)) }
 {
     match judge::certified_report_by_workers::<R, L>(rt, rt.alloc(), given, outside, settings) {
         Ok(told) => Ok(told),
@@ -143,12 +150,12 @@ pub fn verified_report_of<L: Leave>(
     given: Vec<GivenPackage>,
     outside: DeclaredPackages,
     certificates: &Certificates,
-    format: Format,
+    telling: Telling<'_>,
 ) -> Result<Report, Fault>
-    ensures report { IfOk result (IsVerifiedReport format (packages_of outside) given.items certificates.now) }
+    ensures report { IfOk result (IsVerifiedReport telling.entry (packages_of outside) given.items certificates.now) }
     ensures fault { IfErr result (IsVerdictFault (packages_of outside) given.items certificates.now) }
 {
-    match judge::verified_report_of::<L>(alloc, given, outside, certificates, format) {
+    match judge::verified_report_of::<L>(alloc, given, outside, certificates, telling) {
         Ok(report) => Ok(report),
         Err(fault) => Err(fault_of_verify(fault)),
     }

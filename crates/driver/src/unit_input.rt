@@ -6,6 +6,7 @@ ghost use Rattle.folders.specs.ReadFaults.{IsReadFault};
 ghost use Rattle.unit_config.specs.UnitValues.{unit_of};
 ghost use Rattle.driver.specs.UnitsRead.{edition_of_unit, IsInputFaultOf, IsInputOf, IsPackageOf};
 
+use crate::baseline_input::{BaselineRead, read_located_baseline};
 use crate::digests::digest_in;
 use crate::facts_input::read_facts;
 use crate::input::edition_or;
@@ -19,26 +20,28 @@ use unit_config::Unit;
 use unit_reading::{JudgedBy, ToldImport, read_told, without_suffix};
 
 /// What was read for a unit: the file of declared facts, if one is named, what is declared, and the digest of that
-/// file; what is kept of imported packages; the path of its module; and its package.
+/// file; the findings of an earlier run; what is kept of imported packages; the path of its module; and its package.
 #[derive(Drop)]
 pub struct UnitInput<'u> {
     pub facts: Option<ReadFile<'u>>,
     pub outside: DeclaredPackages,
     /// Empty where no file of declared facts is named.
     pub digest: String,
+    pub baseline: BaselineRead<'u>,
     pub told: Vec<ToldImport<'u>>,
     /// Empty where the unit is in no module.
     pub module_path: String,
     pub given: GivenPackage,
 }
 
-/// Reads what the unit names, by these flags: the file of declared facts; what is kept of imported packages; the path
-/// of its module; and its files. Unless an edition is asked for, the package is judged by the second one.
+/// Reads what the unit names, by these flags: the file of declared facts; the report of an earlier run; what is kept of
+/// imported packages; the path of its module; and its files. Unless an edition is asked for, the package is judged by
+/// the second one.
 ///
 /// # Errors
 ///
-/// One of these can't be read; declared facts are none; nothing is kept in the file of an imported package, or another
-/// package is, or one that was judged otherwise; or memory was refused. It is the first of these.
+/// One of these can't be read; declared facts, or a report, are none; nothing is kept in the file of an imported
+/// package, or another package is, or one that was judged otherwise; or memory was refused. It is the first of these.
 pub fn read_unit_input<'u, R: Files + AllocGlobal>(
     rt: &R,
     flags: &UnitFlags<'u>,
@@ -49,6 +52,7 @@ pub fn read_unit_input<'u, R: Files + AllocGlobal>(
 {
     let declared = read_facts(rt, flags.facts)?;
     let digest = digest_in(rt.alloc(), &declared.file)?;
+    let baseline = read_located_baseline(rt, flags.baseline)?;
     let edition = edition_or(Edition::Second, flags.edition);
     let by = JudgedBy {
         edition: number_of(edition),
@@ -61,6 +65,7 @@ pub fn read_unit_input<'u, R: Files + AllocGlobal>(
         facts: declared.file,
         outside: declared.outside,
         digest,
+        baseline,
         told,
         module_path,
         given,

@@ -3,15 +3,18 @@
 ghost use Rattle.std.specs.Prelude.{◌≡◌, IfErr, IfOk, string_bytes};
 ghost use Rattle.judge.specs.declared.one_unit.UnitReportFault.{UnitReportFault};
 ghost use Rattle.unit_config.specs.UnitValues.{unit_of};
-ghost use Rattle.driver.specs.UnitRuns.{AreCounted, IsFormOf, IsJudgedSo, IsJudgingFault, IsToldAs};
+ghost use Rattle.driver.specs.UnitRuns.{AreCounted, IsFormOf, IsShapeOf, IsJudgedSo, IsJudgingFault, IsToldAs};
 
 use crate::input::edition_or;
 use crate::reports::fault_of_load;
+use crate::telling::telling_of;
 use crate::unit_input::{UnitInput, number_of};
-use command_line::UnitFlags;
+use baseline_json::BaselineFinding;
+use command_line::{ReportWords, UnitFlags};
 use folders::{Fault, escaped};
-use judge::{ImportedUnit, UnitForm, UnitReportFault, report_of_unit};
+use judge::{ImportedUnit, UnitForm, UnitReportFault, UnitShape, report_of_unit};
 use load::Leave;
+use report::Format;
 use std::alloc::{AllocError, Global};
 use tree::Edition;
 use unit_config::Unit;
@@ -45,16 +48,30 @@ fn imports_in<'k>(
     Ok(imports)
 }
 
-/// In which form the unit of this name is told.
-fn form_of<'n>(flags: &UnitFlags<'_>, id: &'n str) -> UnitForm<'n>
-    ensures { IsFormOf flags.now id.now result }
+/// In which form the unit of this name is told, where these findings of an earlier run are accepted.
+fn form_of<'n>(flags: &UnitFlags<'_>, id: &'n str, known: &'n [BaselineFinding]) -> UnitForm<'n>
+    ensures { IsFormOf flags.now id.now known.now result }
+{
+    let words = ReportWords {
+        format: Format::Text,
+        accepted: flags.accepted,
+        quiet: flags.quiet,
+    };
+    let edition = edition_or(Edition::Second, flags.edition);
+    UnitForm {
+        telling: telling_of(edition, words, true, known),
+        with_reasons: flags.with_reasons,
+        shape: shape_of(flags, id),
+    }
+}
+
+fn shape_of<'n>(flags: &UnitFlags<'_>, id: &'n str) -> UnitShape<'n>
+    ensures { IsShapeOf flags.now id.now result }
 {
     if flags.is_json {
-        UnitForm::Json(id)
-    } else if flags.with_reasons {
-        UnitForm::Explained(flags.lines)
+        UnitShape::Json(id)
     } else {
-        UnitForm::Text(flags.lines)
+        UnitShape::Text(flags.lines)
     }
 }
 
@@ -99,13 +116,14 @@ pub fn judge_unit<L: Leave>(
         facts: _facts,
         outside,
         digest,
+        baseline,
         told,
         module_path,
         given,
     } = input;
     let imports = imports_in(alloc, &told, module_path.as_str())?;
     let path = String::from_str(alloc, without_suffix(unit.path.as_str()))?;
-    let form = form_of(flags, unit.id.as_str());
+    let form = form_of(flags, unit.id.as_str(), &baseline.findings);
     let report = match report_of_unit::<L>(alloc, given, &imports, outside, form) {
         Ok(report) => report,
         Err(fault) => return Err(fault_of_package(alloc, path.as_str(), fault)),

@@ -10,12 +10,13 @@ ghost use Rattle.driver.specs.Statuses.{status_of};
 ghost use Rattle.driver.specs.WrittenReport.{IsBegun, IsWritten, OfVerifiedReport};
 
 use crate::certificate_input::read_certificates;
-use crate::input::{FilesRead, Input, read_input};
+use crate::input::{FilesRead, Input, edition_of_run, read_input};
 use crate::notes::note;
 use crate::packages::{FoldersAsked, all_named};
 use crate::printing::print;
 use crate::reports::verified_report_of;
 use crate::status::Status;
+use crate::telling::telling_of;
 use crate::writers::Refusals;
 use certificate_json::Certificates;
 use command_line::VerifyWords;
@@ -69,12 +70,12 @@ pub fn verify<'a, R: Files + Surroundings + AllocGlobal, W: Write, E: Write, L: 
     refusals: &mut Refusals,
 ) -> Result<Verified<'a>, Fault>
     ensures written { IfOk result (λ done. (yes : Bool) × (done.status ≡ status_of yes)
-        × OfVerifiedReport asked.now.sources asked.now.format done.files
+        × OfVerifiedReport asked.now.sources asked.now.report done.files
         (IsWritten (W.contents out.old) (W.contents out.new) yes)) }
     ensures fault { IfErr result (IsVerificationFault asked.now.sources) }
     ensures unwritten { IfErr result (λ fault. LeavesUnwritten fault (W.contents out.old) (W.contents out.new)) }
     ensures begun { IfErr result (λ fault. fault ≡ Fault.CannotWrite → (files : FilesRead)
-        × OfVerifiedReport asked.now.sources asked.now.format files
+        × OfVerifiedReport asked.now.sources asked.now.report files
         (IsBegun (W.contents out.old) (W.contents out.new))) }
     ensures refused { refusals.new.any ≡ refused_by refusals.old.any result }
 {
@@ -83,17 +84,19 @@ pub fn verify<'a, R: Files + Surroundings + AllocGlobal, W: Write, E: Write, L: 
         certificates,
         input,
     } = read;
-    let report = verified_report_of::<L>(
-        rt.alloc(),
-        input.given,
-        input.outside,
-        &certificates,
-        asked.format,
-    )?;
+    let Input {
+        files,
+        outside,
+        given,
+        empty,
+    } = input;
+    let known = &files.baseline.findings;
+    let telling = telling_of(edition_of_run(&asked.sources), asked.report, false, known);
+    let report = verified_report_of::<L>(rt.alloc(), given, outside, &certificates, telling)?;
     print(out, &report.text, refusals)?;
-    note(&input.files, &input.empty, report.counts, err);
+    note(rt.alloc(), &files, &empty, report.counts, err);
     Ok(Verified {
-        status: Status::of_verdict(report.yes),
-        files: input.files,
+        status: Status::of_verdict(report.passes),
+        files,
     })
 }

@@ -63,7 +63,7 @@ fn status_of(flags: &UnitFlags<'_>, unit: &Unit, judged: &JudgedUnit) -> Status
     if unit.is_silent || flags.is_json {
         Status::Fine
     } else {
-        Status::of_verdict(judged.kept.is_yes)
+        Status::of_verdict(judged.text.is_empty())
     }
 }
 

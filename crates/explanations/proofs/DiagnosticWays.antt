@@ -22,7 +22,7 @@ use Rattle.meaning_reports.specs.WholeFaults.{HasNoWholeFault, IsWholeFault, has
 use Rattle.path_faults.proofs.Places.{element_at}
 use Rattle.report.specs.Entries.{Entry, entry_of}
 use Rattle.silent_files.proofs.WalkedFiles.{walks_are_enough}
-use Rattle.report_formats.specs.declared.notes.ExplainedDiagnostic.{ExplainedDiagnostic}
+use Rattle.report.specs.declared.notes.ExplainedDiagnostic.{ExplainedDiagnostic}
 
 abbrev IsOfPath : Entry → Type 0
 IsOfPath x = is_some (path_code_of x.code) ≡ true

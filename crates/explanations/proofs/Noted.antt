@@ -8,12 +8,12 @@ use Rattle.body_ways.specs.BodyWays.{ToldWay}
 use Rattle.explanations.specs.Found.{path_code_of, AreNotesByWays, HasWayNotes}
 use Rattle.explanations.specs.KeptUses.{AreNotesByUses, FileReasons, HasUseNote}
 use Rattle.explanations.specs.Uses.{asked_of}
-use Rattle.report_formats.specs.ExplainedText.{plain_of}
+use Rattle.report.specs.Notes.{plain_of}
 use Rattle.lexer.specs.declared.source.Source.{Source}
 use Rattle.meaning.proofs.Membership.{contains_nil, contains_cases}
 use Rattle.report.specs.declared.diagnostics.Diagnostic.{Diagnostic}
-use Rattle.report_formats.specs.declared.notes.ExplainedDiagnostic.{ExplainedDiagnostic}
-use Rattle.report_formats.specs.declared.notes.Note.{Note}
+use Rattle.report.specs.declared.notes.ExplainedDiagnostic.{ExplainedDiagnostic}
+use Rattle.report.specs.declared.notes.Note.{Note}
 
 -- a diagnostic with its notes
 abbrev pub with_notes : Diagnostic → Vec Note Global → ExplainedDiagnostic

@@ -23,9 +23,9 @@ use Rattle.one_package.specs.declared.judged.Judged.{Judged}
 use Rattle.path_faults.proofs.Places.{any_holds}
 use Rattle.report.specs.Entries.{entry_of}
 use Rattle.report.specs.declared.diagnostics.Diagnostic.{Diagnostic}
-use Rattle.report_formats.specs.ExplainedText.{plain_of}
-use Rattle.report_formats.specs.declared.notes.ExplainedDiagnostic.{ExplainedDiagnostic}
-use Rattle.report_formats.specs.declared.notes.ExplainedPackage.{ExplainedPackage}
+use Rattle.report.specs.Notes.{plain_of}
+use Rattle.report.specs.declared.notes.ExplainedDiagnostic.{ExplainedDiagnostic}
+use Rattle.report.specs.declared.notes.ExplainedPackage.{ExplainedPackage}
 use Rattle.silent_files.proofs.OneMore.{last_or_before}
 use Rattle.whole_packages.specs.LoadedViews.{HaveDistinctPaths, TellPackages}
 use Rattle.whole_packages.specs.declared.loaded_package.LoadedPackage.{LoadedPackage as KeptPackage}

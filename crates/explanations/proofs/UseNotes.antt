@@ -12,11 +12,11 @@ use Rattle.meaning_reports.specs.PackageReports.{AreFindingsBy, IsFindingBy, of_
 use Rattle.meaning_reports.specs.WholeFaults.{HasNoWholeFault, IsWholeFault, has_no_tokens, has_no_tree, has_two_functions, has_no_rank}
 use Rattle.report.specs.Entries.{Entry, entry_of}
 use Rattle.report.specs.declared.codes.DiagnosticCode.{DiagnosticCode}
-use Rattle.report.specs.declared.codes.DiagnosticCode.TheVariants.{Unreadable, LeftOut, Discarded, Overwritten, NotCalled, CancelMisused, GroupIsLive, GroupOverwritten, GroupMisused, LeftToLiveGroup, BoundAgain, TooMany, ImportIsNotYes, ImportHasNoRank, TwoFunctions, NoCertificate}
+use Rattle.report.specs.declared.codes.DiagnosticCode.TheVariants.{Unreadable, LeftOut, Discarded, Overwritten, NotCalled, CancelMisused, GroupIsLive, GroupOverwritten, GroupMisused, LeftToLiveGroup, BoundAgain, TooMany, ImportIsNotYes, ImportHasNoRank, TwoFunctions, NoCertificate, AcceptsNothing}
 use Rattle.report.specs.declared.diagnostics.Diagnostic.{Diagnostic}
-use Rattle.report_formats.specs.ExplainedText.{plain_of}
-use Rattle.report_formats.specs.declared.notes.ExplainedDiagnostic.{ExplainedDiagnostic}
-use Rattle.report_formats.specs.declared.notes.Note.{Note}
+use Rattle.report.specs.Notes.{plain_of}
+use Rattle.report.specs.declared.notes.ExplainedDiagnostic.{ExplainedDiagnostic}
+use Rattle.report.specs.declared.notes.Note.{Note}
 use Rattle.use_reasons.specs.UseReasons.{UseReason}
 
 -- Codes
@@ -39,6 +39,7 @@ not_both ImportIsNotYes of_path of_use = false≢true of_path
 not_both ImportHasNoRank of_path of_use = false≢true of_path
 not_both TwoFunctions of_path of_use = false≢true of_path
 not_both NoCertificate of_path of_use = false≢true of_path
+not_both AcceptsNothing of_path of_use = false≢true of_path
 
 no_whole : (ps : List LoadedPackage) (i : ℕ) (x : Entry) → IsWholeFault ps i x → is_some (asked_of x.code) ≡ true → ⊥
 no_whole ps i x (has_no_tokens p file at why is is_file) e = false≢true e

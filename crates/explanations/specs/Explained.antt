@@ -14,8 +14,8 @@ use Rattle.meaning_reports.specs.PackageReports.{IsFileOf, path_entry}
 use Rattle.meaning_reports.specs.PackageTables.{AreTables}
 use Rattle.reasons.specs.Branches.{branches_of}
 use Rattle.report.specs.Entries.{entry_of}
-use Rattle.report_formats.specs.declared.notes.ExplainedDiagnostic.{ExplainedDiagnostic}
-use Rattle.report_formats.specs.declared.notes.ExplainedPackage.{ExplainedPackage}
+use Rattle.report.specs.declared.notes.ExplainedDiagnostic.{ExplainedDiagnostic}
+use Rattle.report.specs.declared.notes.ExplainedPackage.{ExplainedPackage}
 
 -- the notes of a diagnostic of the package at that place are those of a shortest way, through a body of a file of the
 -- package, to the fault of which the diagnostic tells

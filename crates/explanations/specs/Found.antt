@@ -9,10 +9,10 @@ use Rattle.reasons.specs.Words.{word_text}
 use Rattle.report.specs.Entries.{Entry, entry_of}
 use Rattle.report.specs.declared.diagnostics.Diagnostic.{Diagnostic}
 use Rattle.report.specs.declared.codes.DiagnosticCode.{DiagnosticCode}
-use Rattle.report.specs.declared.codes.DiagnosticCode.TheVariants.{Unreadable, LeftOut, Discarded, Overwritten, NotCalled, CancelMisused, GroupIsLive, GroupOverwritten, GroupMisused, LeftToLiveGroup, BoundAgain, TooMany, ImportIsNotYes, ImportHasNoRank, TwoFunctions, NoCertificate}
-use Rattle.report_formats.specs.Notes.{note_text}
-use Rattle.report_formats.specs.declared.notes.ExplainedDiagnostic.{ExplainedDiagnostic}
-use Rattle.report_formats.specs.declared.notes.Note.{Note}
+use Rattle.report.specs.declared.codes.DiagnosticCode.TheVariants.{Unreadable, LeftOut, Discarded, Overwritten, NotCalled, CancelMisused, GroupIsLive, GroupOverwritten, GroupMisused, LeftToLiveGroup, BoundAgain, TooMany, ImportIsNotYes, ImportHasNoRank, TwoFunctions, NoCertificate, AcceptsNothing}
+use Rattle.report.specs.Notes.{note_text}
+use Rattle.report.specs.declared.notes.ExplainedDiagnostic.{ExplainedDiagnostic}
+use Rattle.report.specs.declared.notes.Note.{Note}
 use Rattle.way_notes.specs.Notes.{Note as WayNote}
 
 -- what a note says, and of which place
@@ -45,6 +45,7 @@ path_code_of ImportIsNotYes = None
 path_code_of ImportHasNoRank = None
 path_code_of TwoFunctions = None
 path_code_of NoCertificate = None
+path_code_of AcceptsNothing = None
 
 abbrev pub fault_with : Entry → PathCode → PathFault
 fault_with x code = record { at = x.offset; code = code; name = x.name }

@@ -11,8 +11,8 @@ use Rattle.meaning_reports.specs.Loaded.{LoadedPackage, Tables}
 use Rattle.names.specs.Answers.{declared_at}
 use Rattle.report.specs.Entries.{Entry, entry_of}
 use Rattle.report.specs.declared.diagnostics.Diagnostic.{Diagnostic}
-use Rattle.report_formats.specs.declared.notes.ExplainedDiagnostic.{ExplainedDiagnostic}
-use Rattle.report_formats.specs.declared.notes.Note.{Note}
+use Rattle.report.specs.declared.notes.ExplainedDiagnostic.{ExplainedDiagnostic}
+use Rattle.report.specs.declared.notes.Note.{Note}
 use Rattle.tracked_rows.specs.RowViews.{fields_view, left_among}
 use Rattle.tracked_rows.specs.declared.known.Known.{Known as KeptKnown}
 use Rattle.tree.specs.Syntax.{SourceFile}

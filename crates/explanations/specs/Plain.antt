@@ -4,8 +4,8 @@ use Rattle.lexer.specs.declared.source.Source.{Source}
 use Rattle.report.specs.Entries.{texts_of}
 use Rattle.report.specs.declared.diagnostics.Diagnostic.{Diagnostic}
 use Rattle.report.specs.declared.diagnostics.PackageReport.{PackageReport}
-use Rattle.report_formats.specs.ExplainedText.{plain_of}
-use Rattle.report_formats.specs.declared.notes.ExplainedPackage.{ExplainedPackage}
+use Rattle.report.specs.Notes.{plain_of}
+use Rattle.report.specs.declared.notes.ExplainedPackage.{ExplainedPackage}
 use Rattle.one_package.specs.declared.judged.Judged.{Judged}
 
 pub record Plain : Type 0 where

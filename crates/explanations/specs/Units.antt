@@ -4,7 +4,7 @@ use Rattle.explanations.specs.Explained.{HaveTheirNotes}
 use Rattle.gathering.specs.Results.{HaveTold, Tellings}
 use Rattle.meaning_reports.specs.Loaded.{LoadedPackage, Tables}
 use Rattle.meaning_reports.specs.PackageReports.{by_paths}
-use Rattle.report_formats.specs.declared.notes.ExplainedPackage.{ExplainedPackage}
+use Rattle.report.specs.declared.notes.ExplainedPackage.{ExplainedPackage}
 
 -- by all tables that have what was told of its imports, its diagnostics have their notes
 abbrev pub NotesFollow : Tables → List LoadedPackage → ℕ → LoadedPackage → Tellings → ExplainedPackage → Type 0

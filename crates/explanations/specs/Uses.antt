@@ -8,8 +8,8 @@ use Rattle.meaning.specs.Tracked.{Known, placed}
 use Rattle.meaning_reports.specs.Loaded.{LoadedPackage, Tables, known_in, trees_of}
 use Rattle.report.specs.Entries.{Entry, entry_of}
 use Rattle.report.specs.declared.codes.DiagnosticCode.{DiagnosticCode}
-use Rattle.report.specs.declared.codes.DiagnosticCode.TheVariants.{Unreadable, LeftOut, Discarded, Overwritten, NotCalled, CancelMisused, GroupIsLive, GroupOverwritten, GroupMisused, LeftToLiveGroup, BoundAgain, TooMany, ImportIsNotYes, ImportHasNoRank, TwoFunctions, NoCertificate}
-use Rattle.report_formats.specs.declared.notes.ExplainedDiagnostic.{ExplainedDiagnostic}
+use Rattle.report.specs.declared.codes.DiagnosticCode.TheVariants.{Unreadable, LeftOut, Discarded, Overwritten, NotCalled, CancelMisused, GroupIsLive, GroupOverwritten, GroupMisused, LeftToLiveGroup, BoundAgain, TooMany, ImportIsNotYes, ImportHasNoRank, TwoFunctions, NoCertificate, AcceptsNothing}
+use Rattle.report.specs.declared.notes.ExplainedDiagnostic.{ExplainedDiagnostic}
 use Rattle.tree.specs.Syntax.{SourceFile}
 use Rattle.tree.specs.declared.edition.Edition.TheVariants.{Second}
 use Rattle.use_reasons.specs.UseReasons.{AskedOf, of_cancel, of_group, of_binding, UseReason, use_reason}
@@ -32,6 +32,7 @@ asked_of ImportIsNotYes = None
 asked_of ImportHasNoRank = None
 asked_of TwoFunctions = None
 asked_of NoCertificate = None
+asked_of AcceptsNothing = None
 
 -- A use that is asked of, by its offset
 pub record Asked : Type 0 where

@@ -31,6 +31,7 @@ fn asked_of(code: DiagnosticCode) -> Option<AskedOf>
         DiagnosticCode::ImportHasNoRank => None,
         DiagnosticCode::TwoFunctions => None,
         DiagnosticCode::NoCertificate => None,
+        DiagnosticCode::AcceptsNothing => None,
     }
 }
 

@@ -11,8 +11,7 @@ ghost use Rattle.report.specs.Entries.{entry_of};
 
 use crate::copies::copied;
 use crate::notes::{Elsewhere, Explaining, Reasons};
-use report::PackageReport;
-use report_formats::ExplainedPackage;
+use report::{ExplainedPackage, PackageReport};
 use std::alloc::{AllocError, Global};
 
 /// The package of this report with the notes of each of its diagnostics, by these reasons.

@@ -4,7 +4,7 @@ ghost use Rattle.std.specs.Prelude.{◌≡◌, IfOk, is_some, map, option_map, o
 ghost use Rattle.explanations.specs.Found.{AreNotesByWays, HasWayNotes, path_code_of, shown};
 ghost use Rattle.explanations.specs.KeptUses.{uses_view, AreNotesByUses, HasUseNote};
 ghost use Rattle.explanations.specs.Uses.{asked_of};
-ghost use Rattle.report_formats.specs.ExplainedText.{plain_of};
+ghost use Rattle.report.specs.Notes.{plain_of};
 ghost use Rattle.explanations.specs.ToldViews.{ways_view};
 
 use crate::asked::is_of_use;
@@ -14,8 +14,7 @@ use crate::way_of::{is_of_path, way_notes};
 use body_ways::ToldFault;
 use lexer::Source;
 use one_package::{Given, Judged};
-use report::{Diagnostic, DiagnosticCode, PackageReport};
-use report_formats::{ExplainedDiagnostic, Note};
+use report::{Diagnostic, DiagnosticCode, ExplainedDiagnostic, Note, PackageReport};
 use std::alloc::{AllocError, Global};
 use whole_packages::LoadedPackage;
 

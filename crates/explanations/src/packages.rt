@@ -18,8 +18,7 @@ use crate::found::package_reasons;
 use crate::notes::{AllJudged, Elsewhere};
 use declared_json::DeclaredPackages;
 use one_package::{Judged, given_packages};
-use report::PackageReport;
-use report_formats::ExplainedPackage;
+use report::{ExplainedPackage, PackageReport};
 use std::alloc::{AllocError, Global};
 use whole_packages::LoadedPackage;
 

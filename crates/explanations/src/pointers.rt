@@ -8,8 +8,7 @@ ghost use Rattle.whole_packages.specs.LoadedViews.{kept_trees, numbered_view};
 
 use names::can_be_meant;
 use reasons::Pointer;
-use report::{Diagnostic, DiagnosticCode, PackageReport};
-use report_formats::{Note, NoteText};
+use report::{Diagnostic, DiagnosticCode, Note, NoteText, PackageReport};
 use std::alloc::{AllocError, Global};
 use tree::{Func, TopLevelDecl};
 use whole_packages::{LoadedPackage, NumberedTree, numbered_trees};

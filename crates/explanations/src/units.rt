@@ -15,7 +15,7 @@ use crate::explained::explained_report;
 use crate::found::unit_reasons;
 use crate::notes::Elsewhere;
 use one_package::{Judged, KnownImports, Neighbours, around_beside};
-use report_formats::ExplainedPackage;
+use report::ExplainedPackage;
 use std::alloc::{AllocError, Global};
 use whole_packages::LoadedPackage;
 

@@ -11,8 +11,7 @@ ghost use Rattle.way_notes.specs.NoteViews.{note_view};
 use body_ways::ToldFault;
 use lexer::Source;
 use path_faults::{PathCode, PathFault};
-use report::{Diagnostic, DiagnosticCode};
-use report_formats::{Note, NoteText};
+use report::{Diagnostic, DiagnosticCode, Note, NoteText};
 use std::alloc::{AllocError, Global};
 use way_notes::Note as WayNote;
 
@@ -37,6 +36,7 @@ fn path_code_of(code: DiagnosticCode) -> Option<PathCode>
         DiagnosticCode::ImportHasNoRank => None,
         DiagnosticCode::TwoFunctions => None,
         DiagnosticCode::NoCertificate => None,
+        DiagnosticCode::AcceptsNothing => None,
     }
 }
 

@@ -61,6 +61,15 @@ pub base_is : (name : List ℕ) (r : Option (Bor (List ℕ) × Bor (List ℕ)))
 base_is name None none = sym (whole name (λ i inside. NoCharPasses-char slash name i none (omega arith) inside))
 base_is name (Some x) found = base_behind name x.0.now x.1.now found
 
+-- what stands before it is the folder of the name, and where there is none, that is the current one
+pub folder_is : (name : List ℕ) (r : Option (Bor (List ℕ) × Bor (List ℕ)))
+    → MatchOption r (RFindsChar slash name None) (λ x. SplitsAroundMatch (RFindsChar slash) name x.0.now x.1.now)
+    → MatchOption r (has_slash name ≡ false) (λ x. name ≡ x.0.now ++ (slash ∷ base_name name))
+folder_is name None none = has_none name (λ i inside. NoCharPasses-char slash name i none (omega arith) inside)
+folder_is name (Some x) found =
+    parts name x.0.now x.1.now found
+    ∙ ap (λ b. x.0.now ++ (slash ∷ b)) (base_behind name x.0.now x.1.now found)
+
 -- what stands before its last slash is a front of it, and shorter
 pub above_is : (name : List ℕ) (r : Option (Bor (List ℕ) × Bor (List ℕ)))
     → MatchOption r (RFindsChar slash name None) (λ x. SplitsAroundMatch (RFindsChar slash) name x.0.now x.1.now)

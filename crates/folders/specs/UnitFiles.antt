@@ -1,7 +1,7 @@
 -- Which files are read for the names of Go files that the go command writes for a unit.
 -- (`go help test`: files that end in `_test.go` are of tests. cmd/cgo writes for a file X.go that uses C a file
 -- X.cgo1.go, and others that begin with `_cgo_`, into another folder; what a person wrote is X.go.)
-use Rattle.std.specs.Prelude.{ℕ, ◌-◌, ◌==◌, ◌||◌, not, if◌then◌else◌, nat_eq, Bool, false, List, [], ◌∷◌, ◌++◌, Option, Some, None, codes, flat_map, length, option_to_list, take}
+use Rattle.std.specs.Prelude.{◌≡◌, ◌⊎◌, ℕ, ◌-◌, ◌==◌, ◌||◌, not, if◌then◌else◌, nat_eq, Bool, false, List, [], ◌∷◌, ◌++◌, Option, Some, None, codes, flat_map, length, option_to_list, take}
 use Rattle.std.specs.List.{ends_with, starts_with}
 use Rattle.std.specs.Option.{option_map_or}
 use Rattle.std.specs.Str.{bytes_eq}
@@ -19,6 +19,11 @@ has_slash (b ∷ bs) = b == slash || has_slash bs
 abbrev pub base_name : List ℕ → List ℕ
 base_name [] = []
 base_name (b ∷ bs) = if has_slash (b ∷ bs) then base_name bs else b ∷ bs
+
+-- the folder of a file, by its name: what stands before the last slash, or, where there is none, the current one
+abbrev pub IsFolderOf : List ℕ → List ℕ → Type 0
+IsFolderOf name folder =
+    (name ≡ folder ++ (slash ∷ base_name name)) ⊎ ((has_slash name ≡ false) × (folder ≡ codes "."))
 
 -- the file lies in the folder, and not in one below it
 abbrev pub is_in : List ℕ → List ℕ → Bool

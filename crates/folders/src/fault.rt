@@ -56,6 +56,12 @@ pub enum Fault {
     /// Something is declared of the package of this path, which was given.
     #[error("facts name a given package: {0}")]
     FactsNameGiven(String),
+    /// The report of an earlier run is not UTF-8, or no JSON.
+    #[error("baseline is not JSON")]
+    BaselineNotJson,
+    /// The report of an earlier run is JSON, but none that this program wrote in a version that is known.
+    #[error("baseline has another shape")]
+    BaselineWrongShape,
     /// The list of packages is not UTF-8, or no JSON.
     #[error("package list is not JSON")]
     ListNotJson,

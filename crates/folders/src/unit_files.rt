@@ -1,7 +1,7 @@
 //! The files that are read for the names that the go command writes for a unit.
 
 ghost use Rattle.std.specs.Prelude.{◌≡◌, IfOk, OnOk, ◌++◌, option_map, option_to_list, map, string_bytes};
-ghost use Rattle.folders.specs.UnitFiles.{base_name, file_for, file_of, is_in, is_of_tests, made_of, picked_file, picked_files};
+ghost use Rattle.folders.specs.UnitFiles.{base_name, file_for, file_of, is_in, is_of_tests, made_of, picked_file, picked_files, IsFolderOf};
 
 use crate::files::source_name;
 use crate::listed::inside;
@@ -101,6 +101,16 @@ fn base_name(name: &str) -> &str
     match name.rsplit_once('/') {
         Some((_, base)) => base,
         None => name,
+    }
+}
+
+/// The folder of the file of this name: what stands before its last slash, or else the current folder.
+pub fn folder_of(name: &str) -> &str
+    ensures { IsFolderOf name.now result.now }
+{
+    match name.rsplit_once('/') {
+        Some((folder, _)) => folder,
+        None => ".",
     }
 }
 

@@ -12,19 +12,19 @@ use Rattle.meaning_reports.specs.PackageReports.{by_paths}
 use Rattle.meaning_runs.proofs.EntryPlaces.{entries_lie_in_files}
 use Rattle.meaning_runs.proofs.PackageYes.{yes_of_a_package_is_quiet}
 use Rattle.declared_json.specs.DeclaredPackages.{PackageEntry, packages_of}
-use Rattle.report_formats.specs.declared.formats.Format.{Format}
+use Rattle.accepting.specs.declared.telling.Telling.{Telling}
 
-certified_so : (format : Format) (outside : List PackageEntry) (given : List GivenPackage) (loaded : Loaded)
+certified_so : (telling : Telling) (outside : List PackageEntry) (given : List GivenPackage) (loaded : Loaded)
     (told : CertifiedReport)
     → IsLoadBeside given outside loaded
-    → TellsCertifiedText format (declared_tables outside) loaded.packages.items told
-    → IsCertifiedReport format outside given told.report (string_bytes told.certificates)
+    → TellsCertifiedText telling (declared_tables outside) loaded.packages.items told
+    → IsCertifiedReport telling outside given told.report (string_bytes told.certificates)
 unfolding is_report_by
-certified_so format outside given loaded told beside tells =
+certified_so telling outside given loaded told beside tells =
     let declared = declared_tables outside in
     record {
       is_report =
-          is_report_by by_paths format outside refl (yes_of_a_package_is_quiet declared) (entries_lie_in_files declared) given
+          is_report_by by_paths telling outside refl (yes_of_a_package_is_quiet declared) (entries_lie_in_files declared) given
           loaded told.report beside tells.tells_report;
       entries = tells.entries;
       are_certificates =
@@ -33,12 +33,12 @@ certified_so format outside given loaded told beside tells =
       is_text = tells.is_text;
     }
 
-pub is_certified : (format : Format) (outside : List PackageEntry) (given : List GivenPackage) (loaded : Loaded)
+pub is_certified : (telling : Telling) (outside : List PackageEntry) (given : List GivenPackage) (loaded : Loaded)
     (told : CertifiedReport)
     → IsLoadBeside given outside loaded
-    → TellsCertifiedText format (declared_tables (packages_of loaded.outside)) loaded.packages.items told
-    → IsCertifiedReport format outside given told.report (string_bytes told.certificates)
-is_certified format outside given loaded told beside tells =
-    certified_so format outside given loaded told beside
-    (subst (λ (es : List PackageEntry). TellsCertifiedText format (declared_tables es) loaded.packages.items told)
+    → TellsCertifiedText telling (declared_tables (packages_of loaded.outside)) loaded.packages.items told
+    → IsCertifiedReport telling outside given told.report (string_bytes told.certificates)
+is_certified telling outside given loaded told beside tells =
+    certified_so telling outside given loaded told beside
+    (subst (λ (es : List PackageEntry). TellsCertifiedText telling (declared_tables es) loaded.packages.items told)
     beside.is_outside tells)

@@ -11,19 +11,19 @@ use Rattle.meaning_reports.specs.PackageReports.{by_paths}
 use Rattle.meaning_runs.proofs.EntryPlaces.{entries_lie_in_files}
 use Rattle.meaning_runs.proofs.PackageYes.{yes_of_a_package_is_quiet}
 use Rattle.declared_json.specs.DeclaredPackages.{PackageEntry, packages_of}
-use Rattle.report_formats.specs.declared.formats.Format.{Format}
+use Rattle.accepting.specs.declared.telling.Telling.{Telling}
 
-explained_so : (format : Format) (outside : List PackageEntry) (given : List GivenPackage) (loaded : Loaded)
+explained_so : (telling : Telling) (outside : List PackageEntry) (given : List GivenPackage) (loaded : Loaded)
     (told : ExplainedReport)
     → IsLoadBeside given outside loaded
-    → TellsExplained format (declared_tables outside) loaded.packages.items told
-    → IsExplainedReport format outside given told
+    → TellsExplained telling (declared_tables outside) loaded.packages.items told
+    → IsExplainedReport telling outside given told
 unfolding is_report_by
-explained_so format outside given loaded told beside tells =
+explained_so telling outside given loaded told beside tells =
     let declared = declared_tables outside in
     record {
       is_report =
-          is_report_by by_paths format outside refl (yes_of_a_package_is_quiet declared) (entries_lie_in_files declared) given
+          is_report_by by_paths telling outside refl (yes_of_a_package_is_quiet declared) (entries_lie_in_files declared) given
           loaded told.report beside tells.tells_report;
       explained = tells.explained;
       are_same = tells.are_same;
@@ -32,12 +32,12 @@ explained_so format outside given loaded told beside tells =
       is_text = tells.is_text;
     }
 
-pub is_explained : (format : Format) (outside : List PackageEntry) (given : List GivenPackage) (loaded : Loaded)
+pub is_explained : (telling : Telling) (outside : List PackageEntry) (given : List GivenPackage) (loaded : Loaded)
     (told : ExplainedReport)
     → IsLoadBeside given outside loaded
-    → TellsExplained format (declared_tables (packages_of loaded.outside)) loaded.packages.items told
-    → IsExplainedReport format outside given told
-is_explained format outside given loaded told beside tells =
-    explained_so format outside given loaded told beside
-    (subst (λ (es : List PackageEntry). TellsExplained format (declared_tables es) loaded.packages.items told)
+    → TellsExplained telling (declared_tables (packages_of loaded.outside)) loaded.packages.items told
+    → IsExplainedReport telling outside given told
+is_explained telling outside given loaded told beside tells =
+    explained_so telling outside given loaded told beside
+    (subst (λ (es : List PackageEntry). TellsExplained telling (declared_tables es) loaded.packages.items told)
     beside.is_outside tells)

@@ -41,7 +41,7 @@ use Rattle.one_package.specs.declared.judged.Judged.{Judged}
 use Rattle.declared_json.specs.DeclaredPackages as declared_json
 use Rattle.report.specs.Entries.{entry_of}
 use Rattle.report.specs.declared.diagnostics.Diagnostic.{Diagnostic}
-use Rattle.report_formats.specs.declared.formats.Format.{Format}
+use Rattle.accepting.specs.declared.telling.Telling.{Telling}
 use Rattle.table_json.specs.declared.table.Version.{Version}
 use Rattle.table_json.specs.declared.table.Version.TheVariants.{Newer}
 use Rattle.verifier.specs.Rules.{GivenByPath, AreFlagsByCertificates, by_certificates}
@@ -137,7 +137,7 @@ all_too ps qs said others alike long longer each e = all_yes others λ i j is.
 -- Two reports
 
 module _ (outside : List declared_json.PackageEntry) (given : List GivenPackage) (by : GivenByPath) (checked verified : Report)
-    (format other : Format) (h : IsReportBy by_paths format outside given checked)
+    (telling other : Telling) (h : IsReportBy by_paths telling outside given checked)
     (k : IsReportBy (by_certificates by) other outside given verified) where
   abbrev declared : Tables
   declared = declared_tables outside
@@ -210,20 +210,20 @@ module _ (outside : List declared_json.PackageEntry) (given : List GivenPackage)
 -- Certificates of a report
 
 pub full_credits_are_believed : BodiesAreApart → ClaimsAreConsistent → NothingIsFound → FullCreditsAreBelieved
-full_credits_are_believed bodies consistent found format other outside given certificates checked verified i h is_verified credits told =
+full_credits_are_believed bodies consistent found telling other outside given certificates checked verified i h is_verified credits told =
     let by = given_in certificates in
     let k = is_verified.is_report in
     let ps = h.load.load.meant in
     let qs = k.load.load.meant in
     let known = k.are_reports.is_report.tables in
     let declared = declared_tables outside in
-    let same = alike outside given by checked verified format other h k in
-    let p = package_here outside given by checked verified format other h k i told in
-    told_checked outside given by checked verified format other h k i p.0 p.1
+    let same = alike outside given by checked verified telling other h k in
+    let p = package_here outside given by checked verified telling other h k i told in
+    told_checked outside given by checked verified telling other h k i p.0 p.1
     (yes_by_paths bodies consistent found declared by ps known h.are_reports.is_report.tables
-    (by_cert outside given by checked verified format other h k) h.are_reports.is_report.are_tables i
-    (verified_yes outside given by checked verified format other h k i told)
-    (λ j q chain is. texts outside given by checked verified format other h k j q is)
+    (by_cert outside given by checked verified telling other h k) h.are_reports.is_report.are_tables i
+    (verified_yes outside given by checked verified telling other h k i told)
+    (λ j q chain is. texts outside given by checked verified telling other h k j q is)
     (λ j chain q files flags file verified_there among.
     let w = package_there ps qs same j q verified_there.is_package in
     credits j (subst (λ (l : List Package). Chain l i j) (lists_same ps qs same) chain) w.0 files flags file
@@ -238,34 +238,34 @@ read_back text certificates entries written read =
     let same = read Newer entries written in (sym same.0, sym same.1)
 
 -- of each package, where these are the certificates of `check`
-each_believed : LowerLaws → BodiesAreApart → (format other : Format) (outside : List declared_json.PackageEntry)
+each_believed : LowerLaws → BodiesAreApart → (telling other : Telling) (outside : List declared_json.PackageEntry)
     (given : List GivenPackage) (certificates : Certificates) (checked verified : Report)
-    (h : IsReportBy by_paths format outside given checked)
+    (h : IsReportBy by_paths telling outside given checked)
     (k : IsReportBy (by_certificates (given_in certificates)) other outside given verified)
     → AreCertificatesOfAll (declared_tables outside) h.load.load.meant (packages_of certificates)
     → (i : ℕ)
     → IsToldYes h.load.load.meant h.said i ↔ IsToldYes k.load.load.meant k.said i
-each_believed laws bodies format other outside given certificates checked verified h k certified i =
+each_believed laws bodies telling other outside given certificates checked verified h k certified i =
     let by = given_in certificates in
     let declared = declared_tables outside in
     let ps = h.load.load.meant in
     let tables = h.are_reports.is_report.tables in
     let are = h.are_reports.is_report.are_tables in
-    let trees = texts outside given by checked verified format other h k in
+    let trees = texts outside given by checked verified telling other h k in
     let fits = can_be_written given h.loaded.packages.items h.load.can_be_loaded h.load.load declared tables are trees in
     let agree = tables_agree laws bodies declared by ps tables k.are_reports.is_report.tables are
-    (by_cert outside given by checked verified format other h k) trees
+    (by_cert outside given by checked verified telling other h k) trees
     (given_by_check bodies declared ps (packages_of certificates) tables are h.load.load.distinct certified trees fits) in (
-      λ told. told_verified outside given by checked verified format other h k i told.loaded told.is_package
-          ((agree.1 i).0 (checked_yes outside given by checked verified format other h k i told)),
+      λ told. told_verified outside given by checked verified telling other h k i told.loaded told.is_package
+          ((agree.1 i).0 (checked_yes outside given by checked verified telling other h k i told)),
       λ told.
-          let p = package_here outside given by checked verified format other h k i told in
-          told_checked outside given by checked verified format other h k i p.0 p.1
-          ((agree.1 i).1 (verified_yes outside given by checked verified format other h k i told)),
+          let p = package_here outside given by checked verified telling other h k i told in
+          told_checked outside given by checked verified telling other h k i p.0 p.1
+          ((agree.1 i).1 (verified_yes outside given by checked verified telling other h k i told)),
     )
 
 pub written_certificates_are_believed : LowerLaws → BodiesAreApart → CertificatesReadBack → WrittenCertificatesAreBelieved
-written_certificates_are_believed laws bodies reads_back format other outside given text certificates checked verified is_checked is_read =
+written_certificates_are_believed laws bodies reads_back telling other outside given text certificates checked verified is_checked is_read =
     let h = is_checked.is_report in
     let load = h.load.load in
     let same = read_back text certificates is_checked.entries
@@ -275,10 +275,10 @@ written_certificates_are_believed laws bodies reads_back format other outside gi
     is_checked.are_certificates in
     record {
       of_each = λ is_verified i.
-          each_believed laws bodies format other outside given certificates checked verified h is_verified.is_report certified i;
+          each_believed laws bodies telling other outside given certificates checked verified h is_verified.is_report certified i;
       of_all = λ is_verified.
-          same_verdict outside given (given_in certificates) checked verified format other h is_verified.is_report
-          (each_believed laws bodies format other outside given certificates checked verified h is_verified.is_report certified);
+          same_verdict outside given (given_in certificates) checked verified telling other h is_verified.is_report
+          (each_believed laws bodies telling other outside given certificates checked verified h is_verified.is_report certified);
       of_none_too_old = λ path old.
           none-some path (ap (λ (v : Version). too_old v old.load.load.meant) (sym same.0) ∙ old.is_first);
     }

@@ -1,7 +1,8 @@
 -- Packages that are loaded are kept as they are meant.
 use Rattle.std.proofs.Common.{◌≡◌, List, refl, subst}
-use Rattle.all_packages.specs.declared.reports.Report.{Report}
-use Rattle.all_packages.specs.Reports.{AreReportsBy, TellsReportBy, TellsReport}
+use Rattle.told_reports.specs.declared.reports.Report.{Report}
+use Rattle.all_packages.specs.Reports.{AreReportsBy}
+use Rattle.told_reports.specs.Reports.{TellsReportBy, TellsReport}
 use Rattle.declared_tables.specs.DeclaredTables.{declared_tables}
 use Rattle.judge.proofs.LoadedPackages.{are_as_many, each_loaded}
 use Rattle.judge.proofs.QuietYes.{of_texts, yes_are_quiet}
@@ -19,7 +20,7 @@ use Rattle.meaning_runs.proofs.PackageYes.{yes_of_a_package_is_quiet}
 use Rattle.meaning_runs.specs.EntryPlaces.{EntriesLieInFilesBy}
 use Rattle.meaning_runs.specs.PackageYes.{YesOfAPackageIsQuietBy}
 use Rattle.declared_json.specs.DeclaredPackages.{PackageEntry, packages_of}
-use Rattle.report_formats.specs.declared.formats.Format.{Format}
+use Rattle.accepting.specs.declared.telling.Telling.{Telling}
 use Rattle.whole_packages.specs.LoadedViews.{TellPackages}
 use Rattle.whole_packages.specs.declared.loaded_package.LoadedPackage.{LoadedPackage as KeptPackage}
 
@@ -32,15 +33,15 @@ tell_loaded given packages load = record {
 }
 
 -- by rules that take what is declared as it is, what is said of loaded packages is the report of those that were given
-unfoldable pub is_report_by : (rules : Tables → Rules) (format : Format) (outside : List PackageEntry)
+unfoldable pub is_report_by : (rules : Tables → Rules) (telling : Telling) (outside : List PackageEntry)
     → (rules (declared_tables outside)).declared ≡ declared_tables outside
     → YesOfAPackageIsQuietBy (rules (declared_tables outside))
     → EntriesLieInFilesBy (rules (declared_tables outside))
     → (given : List GivenPackage) (loaded : Loaded) (report : Report)
     → IsLoadBeside given outside loaded
-    → TellsReportBy format (rules (declared_tables outside)) loaded.packages.items report
-    → IsReportBy rules format outside given report
-is_report_by rules format outside same are_quiet they_lie given loaded report beside judged =
+    → TellsReportBy telling (rules (declared_tables outside)) loaded.packages.items report
+    → IsReportBy rules telling outside given report
+is_report_by rules telling outside same are_quiet they_lie given loaded report beside judged =
     let load : IsLoad given loaded.packages.items = beside.load in
     let reports : AreReportsBy (rules (declared_tables outside)) load.meant loaded.packages.items judged.said =
     judged.are_reports load.meant (tell_loaded given loaded.packages.items load) load.distinct in
@@ -60,14 +61,14 @@ is_report_by rules format outside same are_quiet they_lie given loaded report be
     }
 
 -- what is said of them by paths is their report
-pub is_report : (format : Format) (outside : List PackageEntry) (given : List GivenPackage) (loaded : Loaded)
+pub is_report : (telling : Telling) (outside : List PackageEntry) (given : List GivenPackage) (loaded : Loaded)
     (report : Report)
     → IsLoadBeside given outside loaded
-    → TellsReport format (declared_tables (packages_of loaded.outside)) loaded.packages.items report
-    → IsReport format outside given report
-is_report format outside given loaded report beside told =
+    → TellsReport telling (declared_tables (packages_of loaded.outside)) loaded.packages.items report
+    → IsReport telling outside given report
+is_report telling outside given loaded report beside told =
     let declared = declared_tables outside in
-    is_report_by by_paths format outside refl (yes_of_a_package_is_quiet declared) (entries_lie_in_files declared) given loaded
+    is_report_by by_paths telling outside refl (yes_of_a_package_is_quiet declared) (entries_lie_in_files declared) given loaded
     report beside
-    (subst (λ (es : List PackageEntry). TellsReport format (declared_tables es) loaded.packages.items report)
+    (subst (λ (es : List PackageEntry). TellsReport telling (declared_tables es) loaded.packages.items report)
     beside.is_outside told)

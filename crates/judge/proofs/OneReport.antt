@@ -1,19 +1,22 @@
 -- Given packages have one report. They are loaded in one way, but for the reasons why trees are missing; and where one is
 -- missing, the package is no yes in either report.
 use Rattle.std.proofs.Common.{◌≡◌, ℕ, ◌+◌, zero, suc, ◌⊎◌, inl, inr, Bool, true, false, ◌&&◌, cond, List, [], ◌∷◌, length, map, Some, None, Contains, refl, sym, ap, ◌∙◌, subst, arith}
-use Rattle.std.specs.Prelude.{count_by, min, option_map, slice_get, sum_by}
+use Rattle.std.specs.Prelude.{option_map, slice_get}
 use Rattle.std.specs.List.{list_all}
 use Rattle.std.proofs.lemmas.List.{length-map}
 use Rattle.std.proofs.lemmas.List.Sorted.{Contains-permutation, IsPermutation-sym}
-use Rattle.std.proofs.lemmas.List.Sums.{sum_by-cons}
 use Rattle.std.proofs.lemmas.Option.{same_Some, slice_get_within, get_or_from_slice_get, slice_get-map}
 use Rattle.lexer.specs.declared.source.Source.{Source}
 use Rattle.meaning.proofs.Membership.{contains_nil, contains_unmap}
 use Rattle.report.specs.declared.diagnostics.Diagnostic.{Diagnostic}
 use Rattle.report.specs.Entries.{Entry, entry_of}
-use Rattle.report.specs.declared.diagnostics.PackageReport.{PackageReport}
-use Rattle.report_formats.specs.Formats.{text_in}
-use Rattle.report_formats.specs.declared.formats.Format.{Format}
+use Rattle.report_formats.specs.Formats.{text_of}
+use Rattle.accepting.specs.ByBaseline.{Key, baseline_keys, key_in}
+use Rattle.accepting.specs.Findings.{FoundEntry, plain_package}
+use Rattle.accepting.specs.Found.{found_by, found_in}
+use Rattle.accepting.specs.declared.telling.Telling.{Telling}
+use Rattle.baseline_json.specs.BaselineValues.{entry_of as known_entry}
+use Rattle.baseline_json.specs.declared.baseline.BaselineFinding.{BaselineFinding}
 use Rattle.meaning_reports.specs.Loaded.{Reading, has_tree, has_text_fault, has_tree_fault, LoadedPackage, Tables}
 use Rattle.meaning_reports.specs.WholeFaults.{IsWholeFault, has_no_tree}
 use Rattle.meaning_reports.specs.PackageReports.{of_whole, Said, IsReportOf}
@@ -24,15 +27,16 @@ use Rattle.load.specs.Readings.{IsReadingOf}
 use Rattle.load.specs.GivenPackages.{PathAndFiles, entry_of as path_and_files, AreLoaded, IsLoad}
 use Rattle.one_package.specs.declared.judged.Judged.{Judged}
 use Rattle.one_package.specs.Judgments.{table_view, said_view, says_nothing, is_yes}
-use Rattle.all_packages.specs.Reports.{AreCounted, findings_on, most_findings, report_in}
-use Rattle.all_packages.specs.declared.reports.Counts.{Counts}
+use Rattle.all_packages.specs.Reports.{report_in}
+use Rattle.told_reports.specs.Reports.{gone_by, gone_in, package_passes, AreCounted}
+use Rattle.told_reports.specs.declared.reports.Counts.{Counts}
 use Rattle.declared_tables.specs.DeclaredTables.{declared_tables}
 use Rattle.declared_json.specs.DeclaredPackages.{PackageEntry}
 use Rattle.judge.specs.Reports.{Report, IsReport}
-use Rattle.judge.specs.OneReport.{HaveTrees, GivenPackagesHaveOneReport}
+use Rattle.judge.specs.OneReport.{AcceptTheSame, HaveTrees, GivenPackagesHaveOneReport}
 use Rattle.judge.proofs.LoadedPackages.{are_as_many, each_loaded}
 use Rattle.judge.proofs.SourcePlaces.{source_there, there}
-use Rattle.judge.proofs.SameTexts.{one_text}
+use Rattle.judge.proofs.SameTexts.{one_telling}
 use Rattle.judge.proofs.OneLoad.{one_order, HasTreeFault, HasNoTreeIn, one_way, one_source}
 
 -- Verdicts
@@ -89,48 +93,42 @@ no_yes declared ps said reports h =
     let fault = whole_fault ps h in
     not_all said h.place s.0 s.1 (some_entry s.0.entries fault.0 ((findings.each fault.0).1 (of_whole fault.1)))
 
--- Counts
+-- What is told
 
-same_sums : (f : PackageReport → ℕ) (g : Said → ℕ) → ((j : Judged) → f (report_in j) ≡ g (said_view j)) → (said : List Judged)
-    → sum_by f (map report_in said) ≡ sum_by g (map said_view said)
-same_sums f g same [] = refl
-same_sums f g same (j ∷ js) =
-    let first = same j in
-    let rest = same_sums f g same js in
-    sum_by-cons f (report_in j) (map report_in js)
-    ∙ ((λ i. first i + rest i)
-    ∙ sym (sum_by-cons g (said_view j) (map said_view js)))
-
-abbrev entries_on : Said → ℕ
-entries_on said = length said.entries
-
--- the counts by what is said
-abbrev counts_by : List Said → Counts
-counts_by said = record {
-  packages = length said;
-  yes = count_by is_quiet said;
-  findings = min (sum_by entries_on said) most_findings;
+counted : (gone : ℕ) (found : List FoundEntry) (one other : Counts) → AreCounted gone found one
+    → AreCounted gone found other
+    → one ≡ other
+counted gone found one other h k = λ i. record {
+  packages = (h.packages ∙ sym k.packages) i;
+  yes = (h.yes ∙ sym k.yes) i;
+  accepted = (h.accepted ∙ sym k.accepted) i;
+  findings = (h.findings ∙ sym k.findings) i;
+  accepted_findings = (h.accepted_findings ∙ sym k.accepted_findings) i;
+  gone = (h.are_gone ∙ sym k.are_gone) i;
 }
 
-counted : (said : List Judged) (counts : Counts) → AreCounted (map report_in said) counts → counts ≡ counts_by (map said_view said)
-counted said counts h =
-    let long = length-map said report_in ∙ sym (length-map said said_view) in
-    let quiet : count_by is_yes (map report_in said) ≡ count_by is_quiet (map said_view said) =
-    same_sums (λ r. cond (is_yes r) 1 0) (λ s. cond (is_quiet s) 1 0)
-    (λ j. ap (λ (b : Bool). cond {A = ℕ} b 1 0) (nothing_said j.report.diagnostics.items)) said in
-    let found : sum_by findings_on (map report_in said) ≡ sum_by entries_on (map said_view said) =
-    same_sums findings_on entries_on (λ j. sym (length-map j.report.diagnostics.items entry_of)) said in
-    λ i. record {
-      packages = (h.packages ∙ long) i;
-      yes = (h.yes ∙ quiet) i;
-      findings = (h.findings ∙ ap (λ (n : ℕ). min n most_findings) found) i;
-    }
+-- what is known, by its keys
+keys_are : (fs : List BaselineFinding) → map key_in (map known_entry fs) ≡ baseline_keys fs
+keys_are [] = refl
+keys_are (f ∷ fs) = ap (λ (ks : List Key). key_in (known_entry f) ∷ ks) (keys_are fs)
+
+same_keys : (one other : Telling) → AcceptTheSame one other
+    → baseline_keys one.baseline.now ≡ baseline_keys other.baseline.now
+same_keys one other same =
+    sym (keys_are one.baseline.now) ∙ (ap (map key_in) same.known ∙ keys_are other.baseline.now)
+
+-- what is found by two that accept the same, and what is gone
+found_too : (one other : Telling) → AcceptTheSame one other → (ps : List FoundEntry) → found_in one ps ≡ found_in other ps
+found_too one other same ps = λ i. found_by (same.wording i) (same.stale i) (same_keys one other same i) ps
+
+gone_too : (one other : Telling) → AcceptTheSame one other → (ps : List FoundEntry) → gone_in one ps ≡ gone_in other ps
+gone_too one other same ps = λ i. gone_by (same.wording i) (same.known i) ps
 
 -- Two reports
 
 module _
-    (format format_too : Format) (outside : List PackageEntry) (given : List GivenPackage) (one other : Report)
-    (h : IsReport format outside given one) (k : IsReport format_too outside given other) where
+    (telling telling_too : Telling) (outside : List PackageEntry) (given : List GivenPackage) (one other : Report)
+    (h : IsReport telling outside given one) (k : IsReport telling_too outside given other) where
   abbrev declared : Tables
   declared = declared_tables outside
 
@@ -228,34 +226,48 @@ module _
       ∙ (one_source first_load.in_order first_load.meant second_load.meant first_kept second_kept first_load.are_loaded loaded_too i kept.0 others.0 kept.1 others.1
       ∙ sym (k.are_reports.are_told i others.0 b others.1 that).are_sources)
 
-  counts_too : HaveTrees given → one.counts ≡ other.counts
-  counts_too trees = by ways
+  -- where no tree is missing, the same is told of
+  told_of : HaveTrees given → map plain_package (map report_in h.said) ≡ map plain_package (map report_in k.said)
+  told_of trees = by ways
     where
       by : (first_load.meant ≡ second_load.meant) ⊎ (HasNoTreeIn first_load.meant × HasNoTreeIn second_load.meant)
-          → one.counts ≡ other.counts
+          → map plain_package (map report_in h.said) ≡ map plain_package (map report_in k.said)
       by (inl same) =
-          counted h.said one.counts h.told.are_counted
-          ∙ (ap counts_by (same_said same)
-          ∙ sym (counted k.said other.counts k.told.are_counted))
+          one_telling report_in table_view declared first_load.meant h.said k.said h.are_reports.is_report (report_too same) sources
       by (inr w) = absurd (none_missing trees w.0)
 
-  same_text : format ≡ format_too → HaveTrees given → one.text.items ≡ other.text.items
-  same_text one_format trees = by ways
-    where
-      by : (first_load.meant ≡ second_load.meant) ⊎ (HasNoTreeIn first_load.meant × HasNoTreeIn second_load.meant)
-          → one.text.items ≡ other.text.items
-      by (inl same) =
-          h.told.is_text
-          ∙ (one_text report_in table_view format declared first_load.meant h.said k.said h.are_reports.is_report (report_too same) sources
-          ∙ (ap (λ (f : Format). text_in f (map report_in k.said)) one_format
-          ∙ sym k.told.is_text))
-      by (inr w) = absurd (none_missing trees w.0)
+  found_same : HaveTrees given → AcceptTheSame telling telling_too
+      → found_in telling (map plain_package (map report_in h.said))
+      ≡ found_in telling_too (map plain_package (map report_in k.said))
+  found_same trees same =
+      ap (found_in telling) (told_of trees) ∙ found_too telling telling_too same (map plain_package (map report_in k.said))
+
+  counts_too : HaveTrees given → AcceptTheSame telling telling_too → one.counts ≡ other.counts
+  counts_too trees same =
+      let found = found_in telling_too (map plain_package (map report_in k.said)) in
+      counted (gone_in telling_too found) found one.counts other.counts
+      (subst (λ gone. AreCounted gone found one.counts) (gone_too telling telling_too same found)
+      (subst (λ ps. AreCounted (gone_in telling ps) ps one.counts) (found_same trees same) h.told.is_told.are_counted))
+      k.told.is_told.are_counted
+
+  passes_too : HaveTrees given → AcceptTheSame telling telling_too → one.passes ≡ other.passes
+  passes_too trees same =
+      h.told.is_told.passes ∙ (ap (list_all package_passes) (found_same trees same) ∙ sym k.told.is_told.passes)
+
+  same_text : telling ≡ telling_too → HaveTrees given → one.text.items ≡ other.text.items
+  same_text one_telling trees =
+      h.told.is_told.is_text
+      ∙ (ap (λ ps. text_of telling false (found_in telling ps)) (told_of trees)
+      ∙ (ap (λ (t : Telling). text_of t false (found_in t (map plain_package (map report_in k.said)))) one_telling
+      ∙ sym k.told.is_told.is_text))
 
 pub given_packages_have_one_report : GivenPackagesHaveOneReport
 given_packages_have_one_report = record {
   one_verdict = same_verdict;
-  same_counts = λ format format_too outside given one other trees h k.
-      counts_too format format_too outside given one other h k trees;
-  one_text = λ format outside given one other trees h k.
-      same_text format format outside given one other h k refl trees;
+  same_counts = λ telling telling_too outside given one other trees same h k. (
+    counts_too telling telling_too outside given one other h k trees same,
+    passes_too telling telling_too outside given one other h k trees same,
+  );
+  one_text = λ telling outside given one other trees h k.
+      same_text telling telling outside given one other h k refl trees;
 }

@@ -7,7 +7,7 @@ use Rattle.judge.proofs.QuietYes.{of_texts}
 use Rattle.judge.specs.OneUnit.{IsLoadedAlone, IsReportOfUnit, IsUnitReportFault, fault_of}
 use Rattle.judge.specs.Units.{IsUnitFault, IsUnitReport}
 use Rattle.judge.specs.declared.units.ImportedUnit.{ImportedUnit}
-use Rattle.judge.specs.declared.units.UnitForm.{UnitForm}
+use Rattle.told_reports.specs.declared.unit.UnitForm.{UnitForm}
 use Rattle.judge.specs.declared.units.UnitReport.{UnitReport}
 use Rattle.load.specs.GivenPackages.{AreLoaded, PathAndFiles, entry_of}
 use Rattle.load.specs.LoadedBeside.{IsLoadBeside}

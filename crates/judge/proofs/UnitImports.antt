@@ -30,7 +30,7 @@ use Rattle.one_package.specs.Judgments.{IsOfImport}
 use Rattle.one_package.specs.Results.{KeptTold, told_view, told_and, ToldImports, tellings_by_path, tables_told, told_at, AreTold, KnowsTold}
 use Rattle.one_package.specs.ToldNeighbours.{item_of, AreImportsOf, IsRightAbout}
 use Rattle.one_package.specs.declared.known_imports.KnownImports.{KnownImports}
-use Rattle.report_formats.specs.declared.notes.ExplainedPackage.{ExplainedPackage}
+use Rattle.report.specs.declared.notes.ExplainedPackage.{ExplainedPackage}
 
 -- One after the other
 

@@ -13,7 +13,7 @@ use Rattle.judge.specs.Units.{AreImportsTold, NotesFollowFromTold}
 use Rattle.judge.specs.declared.units.ImportedUnit.{ImportedUnit}
 use Rattle.judge.specs.declared.units.ReadImports.{ReadImports}
 use Rattle.judge.specs.declared.units.ToldUnit.{ToldUnit}
-use Rattle.judge.specs.declared.units.UnitForm.{UnitForm}
+use Rattle.told_reports.specs.declared.unit.UnitForm.{UnitForm}
 use Rattle.meaning_reports.specs.Loaded.{LoadedPackage, Tables, import_list, imported_paths}
 use Rattle.meaning_reports.specs.PackageReports.{by_paths}
 use Rattle.one_package.specs.Judgments.{said_view}

@@ -17,12 +17,12 @@ use Rattle.meaning_reports.specs.PackageReports.{Rules}
 use Rattle.meaning_runs.specs.Bodies.{Program}
 use Rattle.meaning_runs.specs.PackageYes.{program_of}
 use Rattle.declared_json.specs.DeclaredPackages.{PackageEntry}
-use Rattle.report_formats.specs.declared.formats.Format.{Format}
+use Rattle.accepting.specs.declared.telling.Telling.{Telling}
 use Rattle.table_json.specs.declared.table.Version.{Version}
 
 module _
-    {rules : Tables → Rules} {format : Format} {outside : List PackageEntry} {given : List GivenPackage}
-    {report : Report} (is_report : IsReportBy rules format outside given report) where
+    {rules : Tables → Rules} {telling : Telling} {outside : List PackageEntry} {given : List GivenPackage}
+    {report : Report} (is_report : IsReportBy rules telling outside given report) where
   -- the report says yes of the package at that place
   abbrev pub SaysYesOf : ℕ → Type 0
   SaysYesOf i = IsToldYes is_report.load.load.meant is_report.said i
@@ -41,9 +41,9 @@ AreReadOf text certificates = (version : Version) (packages : List CertifiedPack
 -- By the certificates that `check` writes, `verify` says yes of exactly the packages of which `check` does, each in any
 -- format.
 module _
-    (format other : Format) (outside : List PackageEntry) (given : List GivenPackage) (text : List ℕ)
+    (telling other : Telling) (outside : List PackageEntry) (given : List GivenPackage) (text : List ℕ)
     (certificates : Certificates) (checked verified : Report)
-    (is_checked : IsCertifiedReport format outside given checked text) where
+    (is_checked : IsCertifiedReport telling outside given checked text) where
   pub record CertificatesAreBelieved : Type 0 where
     pub of_each : (is_verified : IsVerifiedReport other outside given certificates verified) (i : ℕ)
         → SaysYesOf is_checked.is_report i ↔ SaysYesOf is_verified.is_report i
@@ -54,19 +54,19 @@ module _
 
 abbrev pub WrittenCertificatesAreBelieved : Type 0
 WrittenCertificatesAreBelieved =
-    (format other : Format) (outside : List PackageEntry) (given : List GivenPackage) (text : List ℕ)
+    (telling other : Telling) (outside : List PackageEntry) (given : List GivenPackage) (text : List ℕ)
     (certificates : Certificates) (checked verified : Report)
-    → (is_checked : IsCertifiedReport format outside given checked text)
+    → (is_checked : IsCertifiedReport telling outside given checked text)
     → AreReadOf text certificates
-    → CertificatesAreBelieved format other outside given text certificates checked verified is_checked
+    → CertificatesAreBelieved telling other outside given text certificates checked verified is_checked
 
 -- By whatever certificates: where these rely on all that may be relied on, in a package and in every given package
 -- below it, a yes of `verify` is one of `check`.
 abbrev pub FullCreditsAreBelieved : Type 0
 FullCreditsAreBelieved =
-    (format other : Format) (outside : List PackageEntry) (given : List GivenPackage) (certificates : Certificates)
+    (telling other : Telling) (outside : List PackageEntry) (given : List GivenPackage) (certificates : Certificates)
     (checked verified : Report) (i : ℕ)
-    → (is_checked : IsReport format outside given checked)
+    → (is_checked : IsReport telling outside given checked)
     → (is_verified : IsVerifiedReport other outside given certificates verified)
     → HaveFullCredits (given_in certificates) (program_in is_verified.is_report i)
     → SaysYesOf is_verified.is_report i

@@ -5,7 +5,7 @@ use Rattle.judge.specs.Units.{HasLargeNumber, IsUnitReport}
 use Rattle.judge.specs.declared.one_unit.UnitReportFault.{UnitReportFault}
 use Rattle.judge.specs.declared.one_unit.UnitReportFault.TheVariants.{NotLoaded, TooLarge, OutOfMemory}
 use Rattle.judge.specs.declared.units.ImportedUnit.{ImportedUnit}
-use Rattle.judge.specs.declared.units.UnitForm.{UnitForm}
+use Rattle.told_reports.specs.declared.unit.UnitForm.{UnitForm}
 use Rattle.judge.specs.declared.units.UnitReport.{UnitReport}
 use Rattle.load.specs.LoadedBeside.{IsLoadBeside, IsLoadFaultBeside}
 use Rattle.load.specs.Readings.{IsLoadedAs}

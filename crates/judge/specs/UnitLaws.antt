@@ -8,8 +8,9 @@ use Rattle.imports.specs.Ranks.{Imports}
 use Rattle.judge.specs.OneUnit.{IsReportOfUnit}
 use Rattle.judge.specs.Units.{IsUnitReport, kept_of, told_of_path}
 use Rattle.judge.specs.declared.units.ImportedUnit.{ImportedUnit}
-use Rattle.judge.specs.declared.units.UnitForm.{UnitForm}
-use Rattle.judge.specs.declared.units.UnitForm.TheVariants.{Text, Json, Explained}
+use Rattle.told_reports.specs.declared.unit.UnitForm.{UnitForm}
+use Rattle.told_reports.specs.declared.unit.UnitShape.{UnitShape}
+use Rattle.told_reports.specs.declared.unit.UnitShape.TheVariants.{Text, Json}
 use Rattle.judge.specs.declared.units.UnitReport.{UnitReport}
 use Rattle.load.specs.declared.packages.GivenPackage.{GivenPackage}
 use Rattle.meaning_reports.specs.Loaded.{LoadedPackage, HaveDistinctPaths, import_list, imported_paths}
@@ -131,17 +132,24 @@ QuietUnits = (outside : List PackageEntry) (ps : List LoadedPackage) (runs : Lis
 
 -- What is printed
 
--- the form is one of text
-abbrev pub prints_text : UnitForm → Bool
-prints_text (Text around) = true
-prints_text (Json name) = false
-prints_text (Explained around) = true
+-- the findings are told as text
+abbrev pub is_text : UnitShape → Bool
+is_text (Text around) = true
+is_text (Json name) = false
 
--- in such a form the text is empty if and only if the run says yes
-abbrev pub SilentUnitsAreYes : Type 0
-SilentUnitsAreYes = (outside : List PackageEntry) (run : UnitRun outside)
-    → prints_text run.form ≡ true
-    → (run.report.text.items ≡ []) ↔ (run.report.is_yes ≡ true)
+-- Where accepted findings are told too, a unit with an empty text is yes. And a unit that is yes has an empty text,
+-- unless lines that accept nothing are told.
+pub record SilentUnitsAreYes : Type 0 where
+  pub silence_is_yes : (outside : List PackageEntry) (run : UnitRun outside)
+      → is_text run.form.shape ≡ true
+      → run.form.telling.tells_accepted ≡ true
+      → run.report.text.items ≡ []
+      → run.report.is_yes ≡ true
+  pub yes_is_silent : (outside : List PackageEntry) (run : UnitRun outside)
+      → is_text run.form.shape ≡ true
+      → run.form.telling.tells_stale ≡ false
+      → run.report.is_yes ≡ true
+      → run.report.text.items ≡ []
 
 -- Of packages that are given by the bytes of their files
 

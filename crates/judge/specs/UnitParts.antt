@@ -15,7 +15,7 @@ use Rattle.judge.specs.declared.units.ImportedUnit.{ImportedUnit}
 use Rattle.judge.specs.declared.units.ReadImport.{ReadImport}
 use Rattle.judge.specs.declared.units.ReadImports.{ReadImports}
 use Rattle.judge.specs.declared.units.ToldUnit.{ToldUnit}
-use Rattle.judge.specs.declared.units.UnitForm.{UnitForm}
+use Rattle.told_reports.specs.declared.unit.UnitForm.{UnitForm}
 use Rattle.judge.specs.Units.{IsJudgedByTold, IsUnitText, NotesFollowFromTold, kept_of, name_if_any}
 use Rattle.meaning.specs.OuterBlocks.{or_else}
 use Rattle.meaning_reports.specs.Loaded.{LoadedPackage, Tables, import_list, imported_paths}
@@ -28,7 +28,7 @@ use Rattle.one_package.specs.ToldNeighbours.{AreImportsOf}
 use Rattle.one_package.specs.declared.given.Given.{Given}
 use Rattle.one_package.specs.declared.known_imports.KnownImports.{KnownImports}
 use Rattle.one_package.specs.declared.told_neighbours.ImportedPackage.{ImportedPackage}
-use Rattle.report_formats.specs.declared.notes.ExplainedPackage.{ExplainedPackage}
+use Rattle.report.specs.declared.notes.ExplainedPackage.{ExplainedPackage}
 use Rattle.vetx_tables.specs.KeptTables.{table_again}
 use Rattle.whole_packages.specs.LoadedViews.{TellsPackage}
 use Rattle.whole_packages.specs.declared.loaded_package.LoadedPackage.{LoadedPackage as KeptPackage}

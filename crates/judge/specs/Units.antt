@@ -1,6 +1,7 @@
 -- A package that is judged by itself, in a run of its own: by its files, by what was kept of those that it imports when
 -- they were judged, and by what is declared of others. What is said of it, and what is kept of it in turn.
 use Rattle.std.specs.Prelude.{ℕ, ◌≡◌, ◌↔◌, ⊤, Bool, true, false, List, [], ◌∷◌, map, Contains, Option, Some, None, is_some, slice_get, string_bytes}
+use Rattle.accepting.specs.Findings.{FoundEntry, explained_package, plain_package}
 use Rattle.declared_json.specs.DeclaredPackages.{PackageEntry}
 use Rattle.declared_tables.specs.DeclaredTables.{declared_tables}
 use Rattle.explanations.specs.Plain.{judged_view, plain_view}
@@ -10,8 +11,6 @@ use Rattle.gathering.specs.Results.{Told, Tellings, FollowsFromTold}
 use Rattle.imports.specs.Ranks.{HasRank}
 use Rattle.imports.specs.Settling.{place_from}
 use Rattle.judge.specs.declared.units.ImportedUnit.{ImportedUnit}
-use Rattle.judge.specs.declared.units.UnitForm.{UnitForm}
-use Rattle.judge.specs.declared.units.UnitForm.TheVariants.{Text, Json, Explained}
 use Rattle.judge.specs.declared.units.UnitReport.{UnitReport}
 use Rattle.meaning.specs.OuterBlocks.{or_else}
 use Rattle.meaning_reports.specs.Loaded.{LoadedPackage, Tables, HaveDistinctPaths, import_list, imported_paths, name_in, package_names, trees_of}
@@ -21,9 +20,9 @@ use Rattle.meaning_reports.specs.WholeFaults.{IsWholeFault}
 use Rattle.one_package.specs.Judgments.{TellsSources, is_yes, said_view, table_view}
 use Rattle.one_package.specs.declared.judged.Judged.{Judged}
 use Rattle.report.specs.Entries.{Entry}
-use Rattle.report_formats.specs.UnitJson.{unit_json}
-use Rattle.report_formats.specs.UnitText.{explained_unit_text, unit_text}
-use Rattle.report_formats.specs.declared.notes.ExplainedPackage.{ExplainedPackage}
+use Rattle.report.specs.declared.notes.ExplainedPackage.{ExplainedPackage}
+use Rattle.told_reports.specs.UnitTexts.{unit_text_in}
+use Rattle.told_reports.specs.declared.unit.UnitForm.{UnitForm}
 use Rattle.vetx_json.specs.KeptUnits.{VetxEntry, function_of, vetx_of}
 use Rattle.vetx_tables.specs.KeptLaws.{AreKept}
 use Rattle.vetx_tables.specs.KeptTables.{function_fits, table_again}
@@ -107,20 +106,25 @@ NotesFollowFromTold outside told kept explained = (ps : List LoadedPackage) (i :
     → AreImportsTold ps p told
     → NotesFollow (declared_tables outside) ps i p (tellings_in ps told) explained
 
--- it is the text of the same diagnostics with their notes
-pub record IsExplainedText
-    (judged : Judged) (AreNotes : ExplainedPackage → Type 0) (around : Option ℕ) (text : List ℕ)
+-- this holds of the same diagnostics with their notes
+pub record HoldsExplained
+    (judged : Judged) (AreNotes : ExplainedPackage → Type 0) (holds : FoundEntry → Type 0)
     : Type 0 where
   pub explained : ExplainedPackage
   pub is_same : plain_view explained ≡ judged_view judged
   pub are_notes : AreNotes explained
-  pub is_text : text ≡ explained_unit_text around explained
+  pub so : holds (explained_package explained)
 
--- the diagnostics in this form, and no verdict
+-- this holds of the diagnostics, with their notes where these are asked for
+abbrev pub HoldsOfUnit :
+    (with_reasons : Bool) → Judged → (ExplainedPackage → Type 0) → (FoundEntry → Type 0) → Type 0
+HoldsOfUnit false judged AreNotes holds = holds (plain_package judged.report)
+HoldsOfUnit true judged AreNotes holds = HoldsExplained judged AreNotes holds
+
+-- it is the text of the findings in this form, and of no verdict
 abbrev pub IsUnitText : UnitForm → Judged → (ExplainedPackage → Type 0) → List ℕ → Type 0
-IsUnitText (Text around) judged AreNotes text = text ≡ unit_text around judged.report
-IsUnitText (Json name) judged AreNotes text = text ≡ unit_json name.now judged.report
-IsUnitText (Explained around) judged AreNotes text = IsExplainedText judged AreNotes around text
+IsUnitText form judged AreNotes text =
+    HoldsOfUnit form.with_reasons judged AreNotes (λ found. text ≡ unit_text_in form found)
 
 -- the package has a fault as a whole, wherever it is given with a rank, if and only if it is marked
 abbrev pub MarksWholeFault : KeptPackage → Bool → Type 0

@@ -1,7 +1,7 @@
 -- The report of given packages by certificates, and why there is none.
 use Rattle.std.specs.Prelude.{◌≡◌, ℕ, List, Option, None, Some, string_bytes}
-use Rattle.all_packages.specs.Reports.{TellsReportBy}
-use Rattle.all_packages.specs.declared.reports.Report.{Report}
+use Rattle.told_reports.specs.Reports.{TellsReportBy}
+use Rattle.told_reports.specs.declared.reports.Report.{Report}
 use Rattle.cause_mentions.specs.CauseMentions.{first_with_causes}
 use Rattle.certificate_json.specs.Certificates.{packages_of}
 use Rattle.certificate_json.specs.declared.certificates.Certificates.{Certificates}
@@ -15,7 +15,7 @@ use Rattle.load.specs.declared.loaded.Loaded.{Loaded}
 use Rattle.load.specs.declared.packages.GivenPackage.{GivenPackage}
 use Rattle.meaning_reports.specs.Loaded.{LoadedPackage, Tables}
 use Rattle.declared_json.specs.DeclaredPackages.{PackageEntry}
-use Rattle.report_formats.specs.declared.formats.Format.{Format}
+use Rattle.accepting.specs.declared.telling.Telling.{Telling}
 use Rattle.table_json.specs.declared.table.Version.{Version}
 use Rattle.table_json.specs.declared.table.Version.TheVariants.{Older, Newer}
 use Rattle.verifier.specs.GivenViews.{given_of, package_in}
@@ -35,10 +35,10 @@ too_old Newer ps = None
 -- It is the report of the packages in this format by the certificates, which are too old for none of them, where that
 -- is declared of other packages.
 pub record IsVerifiedReport
-    (format : Format) (outside : List PackageEntry) (given : List GivenPackage) (certificates : Certificates)
+    (telling : Telling) (outside : List PackageEntry) (given : List GivenPackage) (certificates : Certificates)
     (report : Report)
     : Type 0 where
-  pub is_report : IsReportBy (by_certificates (given_in certificates)) format outside given report
+  pub is_report : IsReportBy (by_certificates (given_in certificates)) telling outside given report
   pub none_is_too_old_for : too_old certificates.version is_report.load.load.meant ≡ None
 
 -- The packages are loaded, nothing is declared of any of them, and the certificates are too old for the one of that
@@ -61,9 +61,9 @@ abbrev pub IsTooOldFor : List KeptPackage → Certificates → Option (List ℕ)
 IsTooOldFor kept certificates found =
     (ps : List LoadedPackage) → TellPackages ps kept → HaveDistinctPaths ps → found ≡ too_old certificates.version ps
 
-abbrev pub TellsVerified : Format → Tables → List KeptPackage → Certificates → Verified → Type 0
-TellsVerified format declared kept certificates (verified.Told report) =
+abbrev pub TellsVerified : Telling → Tables → List KeptPackage → Certificates → Verified → Type 0
+TellsVerified telling declared kept certificates (verified.Told report) =
     IsTooOldFor kept certificates None
-    × TellsReportBy format (by_certificates (given_in certificates) declared) kept report
-TellsVerified format declared kept certificates (verified.IsTooOld path) =
+    × TellsReportBy telling (by_certificates (given_in certificates) declared) kept report
+TellsVerified telling declared kept certificates (verified.IsTooOld path) =
     IsTooOldFor kept certificates (Some (string_bytes path))

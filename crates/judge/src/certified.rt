@@ -10,7 +10,6 @@ ghost use Rattle.workers.specs.Counts.{count_of};
 
 use crate::check_fault::{CheckFault, of_workers};
 use all_certificates::{Certified, Settings};
-use all_packages::Report;
 use certificate_json::to_json;
 use declared_json::DeclaredPackages;
 use load::{GivenPackage, Leave, Loaded, load_beside_by_workers};
@@ -18,6 +17,7 @@ use package_workers::CheckFault as WorkersFault;
 use std::alloc::Global;
 use std::sync::Wait;
 use std::thread::Threads;
+use told_reports::Report;
 use whole_packages::LoadedPackage;
 
 /// The report of packages, and the text of their certificates.
@@ -34,11 +34,11 @@ fn certified_text_of<R: Threads + Wait + Sync>(
     alloc: Global,
     packages: &[LoadedPackage],
     outside: &DeclaredPackages,
-    settings: Settings,
+    settings: Settings<'_>,
 ) -> Result<CertifiedReport, WorkersFault>
     ensures certified { IfOk result
-        (TellsCertifiedText settings.format (declared_tables (packages_of outside.now)) packages.now) }
-    ensures fault { IfErr result (IsFaultOf (count_of settings.workers) (length packages.now)) }
+        (TellsCertifiedText settings.entry.telling (declared_tables (packages_of outside.now)) packages.now) }
+    ensures fault { IfErr result (IsFaultOf (count_of settings.entry.workers) (length packages.now)) }
 {
     let Certified {
         report,
@@ -56,11 +56,12 @@ fn certified_loaded<R: Threads + Wait + Sync, L: Leave>(
     rt: &R,
     alloc: Global,
     loaded: Loaded,
-    settings: Settings,
+    settings: Settings<'_>,
 ) -> Result<CertifiedReport, WorkersFault>
     ensures certified { IfOk result
-        (TellsCertifiedText settings.format (declared_tables (packages_of loaded.outside)) loaded.packages.items) }
-    ensures fault { IfErr result (IsFaultOf (count_of settings.workers) (length loaded.packages.items)) }
+        (TellsCertifiedText settings.entry.telling
+        (declared_tables (packages_of loaded.outside)) loaded.packages.items) }
+    ensures fault { IfErr result (IsFaultOf (count_of settings.entry.workers) (length loaded.packages.items)) }
 {
     let told = certified_text_of(rt, alloc, &loaded.packages, &loaded.outside, settings);
     L::leave(loaded);
@@ -80,11 +81,11 @@ pub fn certified_report_by_workers<R: Threads + Wait + Sync, L: Leave>(
     alloc: Global,
     given: Vec<GivenPackage>,
     outside: DeclaredPackages,
-    settings: Settings,
+    settings: Settings<'_>,
 ) -> Result<CertifiedReport, CheckFault>
-    ensures report { IfOk result (λ told. IsCertifiedReport settings.format (packages_of outside) given.items
+    ensures report { IfOk result (λ told. IsCertifiedReport settings.entry.telling (packages_of outside) given.items
         told.report (string_bytes told.certificates)) }
-    ensures fault { IfErr result (IsCheckFault (packages_of outside) given.items (count_of settings.workers)) }
+    ensures fault { IfErr result (IsCheckFault (packages_of outside) given.items (count_of settings.entry.workers)) }
 {
     let loaded = match load_beside_by_workers(rt, alloc, given, outside, settings.workers) {
         Ok(loaded) => loaded,

@@ -1,26 +1,24 @@
 //! The report of given packages, and its text with the notes that say why each finding stands there.
 
-ghost use Rattle.std.specs.Prelude.{◌≡◌, IfErr, IfOk, length};
+ghost use Rattle.std.specs.Prelude.{IfErr, IfOk, length};
 ghost use Rattle.declared_tables.specs.DeclaredTables.{declared_tables};
 ghost use Rattle.judge.specs.CheckFaults.{IsCheckFault};
 ghost use Rattle.judge.specs.Explained.{IsExplainedReport, TellsExplained};
 ghost use Rattle.declared_json.specs.DeclaredPackages.{packages_of};
 ghost use Rattle.package_workers.specs.Faults.{IsFaultOf};
-ghost use Rattle.report_formats.specs.Formats.{explained_in};
 ghost use Rattle.workers.specs.Counts.{count_of};
 
 use crate::check_fault::{CheckFault, of_workers};
 use all_certificates::Settings;
-use all_packages::{Report, Text, told};
 use declared_json::DeclaredPackages;
 use explanations::explain;
 use load::{GivenPackage, Leave, Loaded, load_beside_by_workers};
 use one_package::ByPaths;
 use package_workers::{CheckFault as WorkersFault, Crew, Open, check_by_workers};
-use report_formats::{ExplainedPackage, Format, write_explained};
-use std::alloc::{AllocError, Global};
+use std::alloc::Global;
 use std::sync::Wait;
 use std::thread::Threads;
+use told_reports::{Report, explained_text, told};
 use whole_packages::LoadedPackage;
 
 /// The report of packages, and its text with the notes of each finding.
@@ -30,24 +28,6 @@ pub struct ExplainedReport {
     pub text: Vec<u8>,
 }
 
-/// The text of explained packages in this format. It is made as a whole before any of it is printed.
-fn text_of(
-    alloc: Global,
-    format: Format,
-    packages: &[ExplainedPackage],
-) -> Result<Vec<u8>, AllocError>
-    ensures { IfOk result (λ text. text.items ≡ explained_in format packages.now) }
-{
-    let mut text = Text {
-        bytes: Vec::new(alloc),
-        refusals: 0,
-    };
-    match write_explained(format, packages, &mut text) {
-        Ok(()) => Ok(text.bytes),
-        Err(_) => Err(AllocError),
-    }
-}
-
 /// The report of packages of different paths, and its text with the notes, by so many workers, where that is declared
 /// of others.
 fn explained_text_of<R: Threads + Wait + Sync>(
@@ -55,11 +35,11 @@ fn explained_text_of<R: Threads + Wait + Sync>(
     alloc: Global,
     packages: &[LoadedPackage],
     outside: &DeclaredPackages,
-    settings: Settings,
+    settings: Settings<'_>,
 ) -> Result<ExplainedReport, WorkersFault>
     ensures explained { IfOk result
-        (TellsExplained settings.format (declared_tables (packages_of outside.now)) packages.now) }
-    ensures fault { IfErr result (IsFaultOf (count_of settings.workers) (length packages.now)) }
+        (TellsExplained settings.entry.telling (declared_tables (packages_of outside.now)) packages.now) }
+    ensures fault { IfErr result (IsFaultOf (count_of settings.entry.workers) (length packages.now)) }
 {
     let crew = Crew {
         rt,
@@ -68,8 +48,8 @@ fn explained_text_of<R: Threads + Wait + Sync>(
     };
     let judged = check_by_workers(alloc, crew, packages, outside, &ByPaths)?;
     let explained = explain(alloc, packages, outside, &judged)?;
-    let text = text_of(alloc, settings.format, &explained)?;
-    let report = told(alloc, settings.format, judged)?;
+    let text = explained_text(alloc, settings.telling, explained)?;
+    let report = told(alloc, settings.telling, judged)?;
     Ok(ExplainedReport { report, text })
 }
 
@@ -78,11 +58,11 @@ fn explained_loaded<R: Threads + Wait + Sync, L: Leave>(
     rt: &R,
     alloc: Global,
     loaded: Loaded,
-    settings: Settings,
+    settings: Settings<'_>,
 ) -> Result<ExplainedReport, WorkersFault>
     ensures explained { IfOk result
-        (TellsExplained settings.format (declared_tables (packages_of loaded.outside)) loaded.packages.items) }
-    ensures fault { IfErr result (IsFaultOf (count_of settings.workers) (length loaded.packages.items)) }
+        (TellsExplained settings.entry.telling (declared_tables (packages_of loaded.outside)) loaded.packages.items) }
+    ensures fault { IfErr result (IsFaultOf (count_of settings.entry.workers) (length loaded.packages.items)) }
 {
     let explained = explained_text_of(rt, alloc, &loaded.packages, &loaded.outside, settings);
     L::leave(loaded);
@@ -102,10 +82,10 @@ pub fn explained_report_by_workers<R: Threads + Wait + Sync, L: Leave>(
     alloc: Global,
     given: Vec<GivenPackage>,
     outside: DeclaredPackages,
-    settings: Settings,
+    settings: Settings<'_>,
 ) -> Result<ExplainedReport, CheckFault>
-    ensures report { IfOk result (IsExplainedReport settings.format (packages_of outside) given.items) }
-    ensures fault { IfErr result (IsCheckFault (packages_of outside) given.items (count_of settings.workers)) }
+    ensures report { IfOk result (IsExplainedReport settings.entry.telling (packages_of outside) given.items) }
+    ensures fault { IfErr result (IsCheckFault (packages_of outside) given.items (count_of settings.entry.workers)) }
 {
     let loaded = match load_beside_by_workers(rt, alloc, given, outside, settings.workers) {
         Ok(loaded) => loaded,

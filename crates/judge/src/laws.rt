@@ -35,8 +35,9 @@ pub fn quiet_given_units()
     ensures { QuietGivenUnits }
 {}
 
-/// In the forms of text a package that is judged by itself has an empty text if and only if nothing is said of it. So
-/// one of which nothing is printed is quiet.
+/// A package that is judged by itself and told as text, with accepted findings too, has an empty text only if nothing
+/// is said of it. So one of which nothing is printed is quiet. And where nothing is said of it, its text is empty,
+/// unless lines that accept nothing are told.
 pub fn silent_units_are_yes()
     ensures { SilentUnitsAreYes }
 {}

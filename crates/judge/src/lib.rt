@@ -13,13 +13,13 @@ mod reports;
 mod units;
 mod verified;
 
+pub use accepting::Telling;
 pub use agreement::{
     certificates_agree, full_credits_are_believed, least_certificates_are_believed, reports_agree,
     starts_have_own_groups, what_is_believed_has_no_finding, written_certificates_are_believed,
     yes_with_full_credits_is_yes,
 };
 pub use all_certificates::Settings;
-pub use all_packages::{Counts, Report};
 pub use certified::{CertifiedReport, certified_report_by_workers};
 pub use check_fault::CheckFault;
 pub use explained::{ExplainedReport, explained_report_by_workers};
@@ -29,7 +29,7 @@ pub use laws::{
     unit_runs_are_the_report, yes_units_are_quiet,
 };
 pub use one_unit::{UnitReportFault, report_of_unit};
-pub use report_formats::Format;
 pub use reports::{report_by_workers, report_of};
-pub use units::{ImportedUnit, UnitForm, UnitReport, unit_report_of};
+pub use told_reports::{Counts, Report, UnitForm, UnitShape};
+pub use units::{ImportedUnit, UnitReport, unit_report_of};
 pub use verified::{VerifyFault, verified_report_of};

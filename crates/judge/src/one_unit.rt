@@ -6,10 +6,11 @@ ghost use Rattle.judge.specs.OneUnit.{fault_of, IsReportOfUnit, IsUnitReportFaul
 ghost use Rattle.judge.specs.Units.{IsUnitFault, IsUnitReport};
 ghost use Rattle.whole_packages.specs.declared.loaded_package.LoadedPackage.{LoadedPackage as KeptPackage};
 
-use crate::units::{ImportedUnit, UnitForm, UnitReport, unit_report_of};
+use crate::units::{ImportedUnit, UnitReport, unit_report_of};
 use declared_json::DeclaredPackages;
 use load::{GivenPackage, Leave, LoadFault, Loaded, load_beside};
 use std::alloc::{AllocError, Global};
+use told_reports::UnitForm;
 use vetx_tables::KeptFault;
 use whole_packages::LoadedPackage;
 

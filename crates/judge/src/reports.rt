@@ -1,7 +1,7 @@
 //! The report of given packages.
 
 ghost use Rattle.std.specs.Prelude.{IfErr, IfOk, length};
-ghost use Rattle.all_packages.specs.Reports.{TellsReport};
+ghost use Rattle.told_reports.specs.Reports.{TellsReport};
 ghost use Rattle.declared_tables.specs.DeclaredTables.{declared_tables};
 ghost use Rattle.judge.specs.CheckFaults.{IsCheckFault};
 ghost use Rattle.judge.specs.Reports.{IsReport};
@@ -11,16 +11,17 @@ ghost use Rattle.package_workers.specs.Faults.{IsFaultOf};
 ghost use Rattle.workers.specs.Counts.{count_of};
 
 use crate::check_fault::{CheckFault, of_workers};
+use accepting::Telling;
 use all_certificates::Settings;
-use all_packages::{Report, check_by_rules, told};
+use all_packages::check_by_rules;
 use declared_json::DeclaredPackages;
 use load::{GivenPackage, Leave, LoadFault, Loaded, load_beside, load_beside_by_workers};
 use one_package::ByPaths;
 use package_workers::{CheckFault as WorkersFault, Crew, Open, check_by_workers};
-use report_formats::Format;
 use std::alloc::{AllocError, Global};
 use std::sync::Wait;
 use std::thread::Threads;
+use told_reports::{Report, told};
 use whole_packages::LoadedPackage;
 
 /// The report of packages of different paths, where that is declared of others.
@@ -28,19 +29,20 @@ fn whole_report(
     alloc: Global,
     packages: &[LoadedPackage],
     outside: &DeclaredPackages,
-    format: Format,
+    telling: Telling<'_>,
 ) -> Result<Report, AllocError>
-    ensures { IfOk result (TellsReport format (declared_tables (packages_of outside.now)) packages.now) }
+    ensures { IfOk result (TellsReport telling.entry (declared_tables (packages_of outside.now)) packages.now) }
 {
     let judged = check_by_rules(alloc, packages, outside, &ByPaths)?;
-    told(alloc, format, judged)
+    told(alloc, telling, judged)
 }
 
 /// The report of packages of different paths, which are let go.
-fn report_loaded(alloc: Global, loaded: Loaded, format: Format) -> Result<Report, AllocError>
-    ensures { IfOk result (TellsReport format (declared_tables (packages_of loaded.outside)) loaded.packages.items) }
+fn report_loaded(alloc: Global, loaded: Loaded, telling: Telling<'_>) -> Result<Report, AllocError>
+    ensures { IfOk result
+        (TellsReport telling.entry (declared_tables (packages_of loaded.outside)) loaded.packages.items) }
 {
-    let told = whole_report(alloc, &loaded.packages, &loaded.outside, format);
+    let told = whole_report(alloc, &loaded.packages, &loaded.outside, telling);
     loaded.release();
     told
 }
@@ -51,11 +53,11 @@ fn whole_report_by_workers<R: Threads + Wait + Sync>(
     alloc: Global,
     packages: &[LoadedPackage],
     outside: &DeclaredPackages,
-    settings: Settings,
+    settings: Settings<'_>,
 ) -> Result<Report, WorkersFault>
     ensures report { IfOk result
-        (TellsReport settings.format (declared_tables (packages_of outside.now)) packages.now) }
-    ensures fault { IfErr result (IsFaultOf (count_of settings.workers) (length packages.now)) }
+        (TellsReport settings.entry.telling (declared_tables (packages_of outside.now)) packages.now) }
+    ensures fault { IfErr result (IsFaultOf (count_of settings.entry.workers) (length packages.now)) }
 {
     let crew = Crew {
         rt,
@@ -63,7 +65,7 @@ fn whole_report_by_workers<R: Threads + Wait + Sync>(
         gate: &Open,
     };
     let judged = check_by_workers(alloc, crew, packages, outside, &ByPaths)?;
-    Ok(told(alloc, settings.format, judged)?)
+    Ok(told(alloc, settings.telling, judged)?)
 }
 
 /// The same, where `L` says what becomes of the packages then.
@@ -71,11 +73,11 @@ fn report_loaded_by_workers<R: Threads + Wait + Sync, L: Leave>(
     rt: &R,
     alloc: Global,
     loaded: Loaded,
-    settings: Settings,
+    settings: Settings<'_>,
 ) -> Result<Report, WorkersFault>
     ensures report { IfOk result
-        (TellsReport settings.format (declared_tables (packages_of loaded.outside)) loaded.packages.items) }
-    ensures fault { IfErr result (IsFaultOf (count_of settings.workers) (length loaded.packages.items)) }
+        (TellsReport settings.entry.telling (declared_tables (packages_of loaded.outside)) loaded.packages.items) }
+    ensures fault { IfErr result (IsFaultOf (count_of settings.entry.workers) (length loaded.packages.items)) }
 {
     let report = whole_report_by_workers(rt, alloc, &loaded.packages, &loaded.outside, settings);
     L::leave(loaded);
@@ -96,13 +98,13 @@ pub fn report_of(
     alloc: Global,
     given: Vec<GivenPackage>,
     outside: DeclaredPackages,
-    format: Format,
+    telling: Telling<'_>,
 ) -> Result<Report, LoadFault>
-    ensures report { IfOk result (IsReport format (packages_of outside) given.items) }
+    ensures report { IfOk result (IsReport telling.entry (packages_of outside) given.items) }
     ensures fault { IfErr result (IsLoadFaultBeside given.items (packages_of outside)) }
 {
     let loaded = load_beside(alloc, given, outside)?;
-    Ok(report_loaded(alloc, loaded, format)?)
+    Ok(report_loaded(alloc, loaded, telling)?)
 }
 
 /// The same report, in the format of the settings, for any number of workers, and a yes says the same. So many threads
@@ -118,10 +120,10 @@ pub fn report_by_workers<R: Threads + Wait + Sync, L: Leave>(
     alloc: Global,
     given: Vec<GivenPackage>,
     outside: DeclaredPackages,
-    settings: Settings,
+    settings: Settings<'_>,
 ) -> Result<Report, CheckFault>
-    ensures report { IfOk result (IsReport settings.format (packages_of outside) given.items) }
-    ensures fault { IfErr result (IsCheckFault (packages_of outside) given.items (count_of settings.workers)) }
+    ensures report { IfOk result (IsReport settings.entry.telling (packages_of outside) given.items) }
+    ensures fault { IfErr result (IsCheckFault (packages_of outside) given.items (count_of settings.entry.workers)) }
 {
     let loaded = match load_beside_by_workers(rt, alloc, given, outside, settings.workers) {
         Ok(loaded) => loaded,

@@ -10,12 +10,10 @@ ghost use Rattle.judge.specs.UnitParts.{first_imports, is_named, named_among, pa
 ghost use Rattle.meaning_reports.specs.Loaded.{name_in};
 ghost use Rattle.one_package.specs.Neighbours.{nearby_view};
 ghost use Rattle.one_package.specs.Results.{KnowsAll};
-ghost use Rattle.report_formats.specs.UnitJson.{unit_json};
-ghost use Rattle.report_formats.specs.UnitText.{explained_unit_text, unit_text};
 ghost use Rattle.tree.specs.View.{file_syntax};
 ghost use Rattle.whole_packages.specs.WholeEntries.{is_set};
 
-use all_packages::Text;
+use accepting::{explained_package, plain_package};
 use declared_json::DeclaredPackages;
 use declared_tables::{DeclaredTables, PackageTable};
 use explanations::explain_unit;
@@ -24,10 +22,9 @@ use one_package::{
     Alone, ByPaths, Given, ImportedPackage, Judged, Judges, KnownImports, Neighbours,
     ToldNeighbours, given_packages, is_yes, judge_beside,
 };
-use report::PackageReport;
-use report_formats::{ExplainedPackage, write_explained_unit, write_unit_json, write_unit_text};
 use std::alloc::{AllocError, Global};
 use std::slice::from_ref;
+use told_reports::{UnitForm, unit_text};
 use tree::File;
 use vetx_json::{KeptFunction, Vetx};
 use vetx_tables::{KeptFault, kept_functions, table_again};
@@ -39,17 +36,6 @@ pub struct ImportedUnit<'a> {
     /// The path by which it is imported.
     pub path: &'a str,
     pub vetx: &'a Vetx,
-}
-
-/// In which form the diagnostics of such a package are told.
-#[derive(Clone, Copy)]
-pub enum UnitForm<'n> {
-    /// A line for each, and so many lines of the file around its place, if they are asked for.
-    Text(Option<usize>),
-    /// JSON, with this name of the unit.
-    Json(&'n str),
-    /// As `Text`, and below the lines of each diagnostic the notes that say why it stands there.
-    Explained(Option<usize>),
 }
 
 /// The report of a package that is judged by itself, and what is to be kept of it for those that import it.
@@ -81,7 +67,7 @@ struct ReadImports<'a> {
     read: Vec<ReadImport<'a>>,
 }
 
-/// A package that was judged by itself, and its diagnostics in some form.
+/// A package that was judged by itself, and its findings in some form.
 #[derive(Drop)]
 struct ToldUnit<'a> {
     judged: Judged<'a>,
@@ -190,57 +176,7 @@ fn is_first_marked(marks: &[bool]) -> bool
     }
 }
 
-/// The diagnostics of the report, and so many lines around each.
-fn text_of(
-    alloc: Global,
-    around: Option<usize>,
-    report: &PackageReport,
-) -> Result<Vec<u8>, AllocError>
-    ensures { IfOk result (λ text. text.items ≡ unit_text around report.now) }
-{
-    let mut text = Text {
-        bytes: Vec::new(alloc),
-        refusals: 0,
-    };
-    match write_unit_text(report, around, &mut text) {
-        Ok(()) => Ok(text.bytes),
-        Err(_) => Err(AllocError),
-    }
-}
-
-/// The diagnostics of the report of the unit of this name, as JSON.
-fn json_of(alloc: Global, name: &str, report: &PackageReport) -> Result<Vec<u8>, AllocError>
-    ensures { IfOk result (λ text. text.items ≡ unit_json name.now report.now) }
-{
-    let mut text = Text {
-        bytes: Vec::new(alloc),
-        refusals: 0,
-    };
-    match write_unit_json(name, report, &mut text) {
-        Ok(()) => Ok(text.bytes),
-        Err(_) => Err(AllocError),
-    }
-}
-
-/// The diagnostics of the package, and so many lines around each, with their notes.
-fn explained_text_of(
-    alloc: Global,
-    around: Option<usize>,
-    explained: &ExplainedPackage,
-) -> Result<Vec<u8>, AllocError>
-    ensures { IfOk result (λ text. text.items ≡ explained_unit_text around explained.now) }
-{
-    let mut text = Text {
-        bytes: Vec::new(alloc),
-        refusals: 0,
-    };
-    match write_explained_unit(explained, around, &mut text) {
-        Ok(()) => Ok(text.bytes),
-        Err(_) => Err(AllocError),
-    }
-}
-
-/// Judges a package by what is near it, and by what is known of its imports, and tells its diagnostics in this form.
+/// Judges a package by what is near it, and by what is known of its imports, and tells its findings in this form.
 fn judge_near<'a>(
     alloc: Global,
     loaded: &'a LoadedPackage,
@@ -255,20 +191,15 @@ fn judge_near<'a>(
         hands: &Alone,
     };
     let judged = judge_beside(alloc, near, loaded, known, &by)?;
-    match form {
-        UnitForm::Text(around) => {
-            let text = text_of(alloc, around, &judged.report)?;
-            Ok(ToldUnit { judged, text })
-        }
-        UnitForm::Json(name) => {
-            let text = json_of(alloc, name, &judged.report)?;
-            Ok(ToldUnit { judged, text })
-        }
-        UnitForm::Explained(around) => {
-            let explained = explain_unit(alloc, loaded, near, known, &judged)?;
-            let text = explained_text_of(alloc, around, &explained)?;
-            Ok(ToldUnit { judged, text })
-        }
+    if form.with_reasons {
+        let explained = explain_unit(alloc, loaded, near, known, &judged)?;
+        let found = explained_package(alloc, explained)?;
+        let text = unit_text(alloc, form, found)?;
+        Ok(ToldUnit { judged, text })
+    } else {
+        let found = plain_package(alloc, &judged.report)?;
+        let text = unit_text(alloc, form, found)?;
+        Ok(ToldUnit { judged, text })
     }
 }
 

@@ -1,20 +1,21 @@
 //! The report of given packages by certificates.
 
 ghost use Rattle.std.specs.Prelude.{IfErr, IfOk, option_map};
-ghost use Rattle.all_packages.specs.Reports.{TellsReportBy};
+ghost use Rattle.told_reports.specs.Reports.{TellsReportBy};
 ghost use Rattle.declared_tables.specs.DeclaredTables.{declared_tables};
 ghost use Rattle.judge.specs.Verified.{given_in, IsTooOldFor, IsVerifiedReport, IsVerifyFault, TellsVerified};
 ghost use Rattle.declared_json.specs.DeclaredPackages.{packages_of};
 ghost use Rattle.verifier.specs.Rules.{by_certificates};
 
 use crate::first::first_with_causes;
-use all_packages::{Report, check_by_rules, told};
+use accepting::Telling;
+use all_packages::check_by_rules;
 use certificate_json::Certificates;
 use declared_json::DeclaredPackages;
 use load::{GivenPackage, Leave, LoadFault, Loaded, load_beside};
-use report_formats::Format;
 use std::alloc::{AllocError, Global};
 use table_json::Version;
+use told_reports::{Report, told};
 use verifier::ByCertificates;
 use whole_packages::LoadedPackage;
 
@@ -56,14 +57,14 @@ fn told_by(
     packages: &[LoadedPackage],
     outside: &DeclaredPackages,
     certificates: &Certificates,
-    format: Format,
+    telling: Telling<'_>,
 ) -> Result<Report, AllocError>
-    ensures { IfOk result (TellsReportBy format
+    ensures { IfOk result (TellsReportBy telling.entry
         (by_certificates (given_in certificates.now) (declared_tables (packages_of outside.now))) packages.now) }
 {
     let rules = ByCertificates::new(alloc, certificates)?;
     let judged = check_by_rules(alloc, packages, outside, &rules)?;
-    told(alloc, format, judged)
+    told(alloc, telling, judged)
 }
 
 /// The report of packages of different paths by certificates, unless these are too old for one of them.
@@ -72,14 +73,14 @@ fn told_unless_old(
     packages: &[LoadedPackage],
     outside: &DeclaredPackages,
     certificates: &Certificates,
-    format: Format,
+    telling: Telling<'_>,
 ) -> Result<Verified, AllocError>
     ensures { IfOk result
-        (TellsVerified format (declared_tables (packages_of outside.now)) packages.now certificates.now) }
+        (TellsVerified telling.entry (declared_tables (packages_of outside.now)) packages.now certificates.now) }
 {
     match too_old(alloc, packages, certificates)? {
         Some(path) => Ok(Verified::IsTooOld(String::from_str(alloc, path)?)),
-        None => Ok(Verified::Told(told_by(alloc, packages, outside, certificates, format)?)),
+        None => Ok(Verified::Told(told_by(alloc, packages, outside, certificates, telling)?)),
     }
 }
 
@@ -88,17 +89,18 @@ fn verified_loaded<L: Leave>(
     alloc: Global,
     loaded: Loaded,
     certificates: &Certificates,
-    format: Format,
+    telling: Telling<'_>,
 ) -> Result<Verified, AllocError>
     ensures { IfOk result
-        (TellsVerified format (declared_tables (packages_of loaded.outside)) loaded.packages.items certificates.now) }
+        (TellsVerified telling.entry
+        (declared_tables (packages_of loaded.outside)) loaded.packages.items certificates.now) }
 {
     let told = told_unless_old(
         alloc,
         &loaded.packages,
         &loaded.outside,
         certificates,
-        format,
+        telling,
     );
     L::leave(loaded);
     told
@@ -117,16 +119,16 @@ pub fn verified_report_of<L: Leave>(
     given: Vec<GivenPackage>,
     outside: DeclaredPackages,
     certificates: &Certificates,
-    format: Format,
+    telling: Telling<'_>,
 ) -> Result<Report, VerifyFault>
-    ensures report { IfOk result (IsVerifiedReport format (packages_of outside) given.items certificates.now) }
+    ensures report { IfOk result (IsVerifiedReport telling.entry (packages_of outside) given.items certificates.now) }
     ensures fault { IfErr result (IsVerifyFault (packages_of outside) given.items certificates.now) }
 {
     let loaded = match load_beside(alloc, given, outside) {
         Ok(loaded) => loaded,
         Err(fault) => return Err(VerifyFault::NotLoaded(fault)),
     };
-    match verified_loaded::<L>(alloc, loaded, certificates, format) {
+    match verified_loaded::<L>(alloc, loaded, certificates, telling) {
         Ok(Verified::Told(report)) => Ok(report),
         Ok(Verified::IsTooOld(path)) => Err(VerifyFault::TooOld(path)),
         Err(_) => Err(VerifyFault::NotLoaded(LoadFault::OutOfMemory)),

@@ -16,7 +16,7 @@ use Rattle.std.proofs.Common.{true}
 use Rattle.report.specs.declared.codes.DiagnosticCode.{DiagnosticCode}
 use Rattle.report.specs.declared.codes.TextFault.TheVariants.{NotUtf8, Nul, UnclosedString, UnclosedComment, UnclosedRune, UnknownCharacter, TooLong}
 use Rattle.report.specs.declared.codes.TreeFault.TheVariants.{UnexpectedToken, TypeParameters, Goto, Fallthrough, DotImport, Recover, TooDeep}
-use Rattle.report.specs.declared.codes.DiagnosticCode.TheVariants.{Unreadable, LeftOut, Discarded, Overwritten, NotCalled, CancelMisused, GroupIsLive, GroupOverwritten, GroupMisused, LeftToLiveGroup, BoundAgain, TooMany, ImportIsNotYes, ImportHasNoRank, TwoFunctions, NoCertificate}
+use Rattle.report.specs.declared.codes.DiagnosticCode.TheVariants.{Unreadable, LeftOut, Discarded, Overwritten, NotCalled, CancelMisused, GroupIsLive, GroupOverwritten, GroupMisused, LeftToLiveGroup, BoundAgain, TooMany, ImportIsNotYes, ImportHasNoRank, TwoFunctions, NoCertificate, AcceptsNothing}
 use Rattle.report.specs.declared.diagnostics.Diagnostic.{Diagnostic}
 use Rattle.report.specs.Codes.{code_rank}
 use Rattle.report.specs.Entries.{Entry, entry_of, TextPrecedes, Precedes, earlier_file, earlier_offset, earlier_code, earlier_name}
@@ -65,7 +65,8 @@ code_at n =
     else if n == 24 then ImportIsNotYes
     else if n == 25 then ImportHasNoRank
     else if n == 26 then TwoFunctions
-    else NoCertificate
+    else if n == 27 then NoCertificate
+    else AcceptsNothing
 
 ranked_back : (x : DiagnosticCode) → code_at (code_rank x) ≡ x
 ranked_back (Unreadable NotUtf8) = refl

@@ -3,4 +3,3 @@ mod Once
 pub mod DiagnosticOrder
 mod NameOrder
 pub mod Fronts
-mod KeepingLines

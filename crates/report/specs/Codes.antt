@@ -1,11 +1,13 @@
 -- The codes of diagnostics: their order, and what the report prints of them.
 use Rattle.std.specs.Prelude.{ℕ, List, codes}
 use Rattle.report.specs.declared.codes.DiagnosticCode.{DiagnosticCode}
-use Rattle.report.specs.declared.codes.DiagnosticCode.TheVariants.{Unreadable, LeftOut, Discarded, Overwritten, NotCalled, CancelMisused, GroupIsLive, GroupOverwritten, GroupMisused, LeftToLiveGroup, BoundAgain, TooMany, ImportIsNotYes, ImportHasNoRank, TwoFunctions, NoCertificate}
+use Rattle.report.specs.declared.codes.DiagnosticCode.TheVariants.{Unreadable, LeftOut, Discarded, Overwritten, NotCalled, CancelMisused, GroupIsLive, GroupOverwritten, GroupMisused, LeftToLiveGroup, BoundAgain, TooMany, ImportIsNotYes, ImportHasNoRank, TwoFunctions, NoCertificate, AcceptsNothing}
 use Rattle.report.specs.declared.codes.TextFault.{TextFault}
 use Rattle.report.specs.declared.codes.TextFault.TheVariants.{NotUtf8, Nul, UnclosedString, UnclosedComment, UnclosedRune, UnknownCharacter, TooLong}
 use Rattle.report.specs.declared.codes.TreeFault.{TreeFault}
 use Rattle.report.specs.declared.codes.TreeFault.TheVariants.{UnexpectedToken, TypeParameters, Goto, Fallthrough, DotImport, Recover, TooDeep}
+use Rattle.report.specs.declared.codes.Wording.{Wording}
+use Rattle.report.specs.declared.codes.Wording.TheVariants.{First, Second}
 
 -- a code's place in the order of the codes, which is the order of the diagnostics at one place
 abbrev pub code_rank : DiagnosticCode → ℕ
@@ -37,6 +39,7 @@ code_rank ImportIsNotYes = 24
 code_rank ImportHasNoRank = 25
 code_rank TwoFunctions = 26
 code_rank NoCertificate = 27
+code_rank AcceptsNothing = 28
 
 -- the number of a code, as the report prints it
 abbrev pub code_number : DiagnosticCode → List ℕ
@@ -56,6 +59,7 @@ code_number ImportIsNotYes = codes "LC13"
 code_number ImportHasNoRank = codes "LC14"
 code_number TwoFunctions = codes "LC15"
 code_number NoCertificate = codes "LC16"
+code_number AcceptsNothing = codes "LC18"
 
 -- why a file has no tokens
 abbrev pub text_fault_text : TextFault → List ℕ
@@ -77,7 +81,7 @@ tree_fault_text DotImport = codes "left out: dot import"
 tree_fault_text Recover = codes "left out: recover"
 tree_fault_text TooDeep = codes "deeper than 200"
 
--- what a code says
+-- what a code says, in the words of the first edition of the rules
 abbrev pub code_text : DiagnosticCode → List ℕ
 code_text (Unreadable why) = text_fault_text why
 code_text (LeftOut why) = tree_fault_text why
@@ -95,3 +99,16 @@ code_text ImportIsNotYes = codes "import is not yes"
 code_text ImportHasNoRank = codes "import has no rank"
 code_text TwoFunctions = codes "two functions of one name"
 code_text NoCertificate = codes "certificate missing or not holding"
+code_text AcceptsNothing = codes "accepts nothing"
+
+-- what it says in these words: those of the second edition say seven codes otherwise
+abbrev pub code_words : Wording → DiagnosticCode → List ℕ
+code_words First code = code_text code
+code_words Second NotCalled = codes "is not called on every path to this return"
+code_words Second CancelMisused = codes "is used in a way that is not followed"
+code_words Second GroupIsLive = codes "is not waited for on every path to this return"
+code_words Second GroupMisused = codes "is used in a way that is not followed"
+code_words Second LeftToLiveGroup = codes "is left to a group that is not waited for on every path to this return"
+code_words Second ImportIsNotYes = codes "import has findings"
+code_words Second ImportHasNoRank = codes "import cycle"
+code_words Second code = code_text code

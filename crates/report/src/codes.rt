@@ -5,7 +5,8 @@ ghost use Rattle.std.specs.Ordering.{nat_cmp, on, as_partial_cmp};
 ghost use Rattle.std.specs.Cmp.{partial_order_from_own_ties, unsigned_ties};
 ghost use Rattle.std.specs.Cmp.Rules.{comparing};
 ghost use Rattle.std.proofs.Common.{rules};
-ghost use Rattle.report.specs.Codes.{code_rank, code_number, code_text, text_fault_text, tree_fault_text};
+ghost use Rattle.report.specs.declared.codes.Wording.TheVariants.{Second};
+ghost use Rattle.report.specs.Codes.{code_rank, code_number, code_text, code_words, text_fault_text, tree_fault_text};
 
 use std::cmp::Ordering;
 
@@ -107,6 +108,15 @@ pub enum DiagnosticCode {
     TwoFunctions,
     /// LC16: a certificate is missing, or does not hold.
     NoCertificate,
+    /// LC18: a line that is to accept findings accepts none, or is not in its form.
+    AcceptsNothing,
+}
+
+/// In which words a code is told: those of the first edition of the rules, or of the second one.
+#[derive(Clone, Copy, Debug, PartialEq, Eq)]
+pub enum Wording {
+    First,
+    Second,
 }
 
 impl DiagnosticCode {
@@ -143,6 +153,7 @@ impl DiagnosticCode {
             DiagnosticCode::ImportHasNoRank => 25,
             DiagnosticCode::TwoFunctions => 26,
             DiagnosticCode::NoCertificate => 27,
+            DiagnosticCode::AcceptsNothing => 28,
         }
     }
 
@@ -167,10 +178,11 @@ impl DiagnosticCode {
             DiagnosticCode::ImportHasNoRank => "LC14",
             DiagnosticCode::TwoFunctions => "LC15",
             DiagnosticCode::NoCertificate => "LC16",
+            DiagnosticCode::AcceptsNothing => "LC18",
         }
     }
 
-    /// What the report prints behind the name.
+    /// What a report by the first edition of the rules prints behind the name.
     pub fn text(self) -> &'static str
         ensures { result.now ≡ code_text self }
     {
@@ -191,6 +203,35 @@ impl DiagnosticCode {
             DiagnosticCode::ImportHasNoRank => "import has no rank",
             DiagnosticCode::TwoFunctions => "two functions of one name",
             DiagnosticCode::NoCertificate => "certificate missing or not holding",
+            DiagnosticCode::AcceptsNothing => "accepts nothing",
+        }
+    }
+
+    /// The same in these words.
+    pub fn words(self, wording: Wording) -> &'static str
+        ensures { result.now ≡ code_words wording self }
+    {
+        match wording {
+            Wording::First => self.text(),
+            Wording::Second => self.second_words(),
+        }
+    }
+
+    /// What a report by the second edition of the rules prints behind the name.
+    fn second_words(self) -> &'static str
+        ensures { result.now ≡ code_words Second self }
+    {
+        match self {
+            DiagnosticCode::NotCalled => "is not called on every path to this return",
+            DiagnosticCode::CancelMisused => "is used in a way that is not followed",
+            DiagnosticCode::GroupIsLive => "is not waited for on every path to this return",
+            DiagnosticCode::GroupMisused => "is used in a way that is not followed",
+            DiagnosticCode::LeftToLiveGroup => {
+                "is left to a group that is not waited for on every path to this return"
+            }
+            DiagnosticCode::ImportIsNotYes => "import has findings",
+            DiagnosticCode::ImportHasNoRank => "import cycle",
+            code => code.text(),
         }
     }
 }

@@ -2,11 +2,13 @@
 use Rattle.std.proofs.Common.{◌≡◌, Some, slice_get, refl}
 use Rattle.std.specs.Prelude.{option_map}
 use Rattle.report.specs.declared.codes.DiagnosticCode.{DiagnosticCode}
-use Rattle.report.specs.declared.codes.DiagnosticCode.TheVariants.{Unreadable, LeftOut, Discarded, Overwritten, NotCalled, CancelMisused, GroupIsLive, GroupOverwritten, GroupMisused, LeftToLiveGroup, BoundAgain, TooMany, ImportIsNotYes, ImportHasNoRank, TwoFunctions, NoCertificate}
+use Rattle.report.specs.declared.codes.DiagnosticCode.TheVariants.{Unreadable, LeftOut, Discarded, Overwritten, NotCalled, CancelMisused, GroupIsLive, GroupOverwritten, GroupMisused, LeftToLiveGroup, BoundAgain, TooMany, ImportIsNotYes, ImportHasNoRank, TwoFunctions, NoCertificate, AcceptsNothing}
+use Rattle.report.specs.declared.codes.Wording.TheVariants.{Second}
 use Rattle.report.specs.Codes.{code_number}
 use Rattle.report_formats.specs.SarifCodes.{rule_codes, rule_index}
 
-pub its_rule : (code : DiagnosticCode) → option_map code_number (slice_get rule_codes (rule_index code)) ≡ Some (code_number code)
+pub its_rule : (code : DiagnosticCode)
+    → option_map code_number (slice_get (rule_codes Second) (rule_index code)) ≡ Some (code_number code)
 its_rule (Unreadable why) = refl
 its_rule (LeftOut why) = refl
 its_rule Discarded = refl
@@ -23,3 +25,4 @@ its_rule ImportIsNotYes = refl
 its_rule ImportHasNoRank = refl
 its_rule TwoFunctions = refl
 its_rule NoCertificate = refl
+its_rule AcceptsNothing = refl

@@ -1,24 +1,37 @@
 -- The text of a report as JSON, cut into what is put.
-use Rattle.std.proofs.Common.{◌≡◌, ◌↔◌, ℕ, length, arith, true≢false, ◌+◌, ◌<◌, get_or, drop, Option, List, [], ◌∷◌, ◌++◌, map, decimal, codes, Bool, true, false, IsTrue, slice_get, refl, sym, ap, ◌∙◌}
+use Rattle.std.proofs.Common.{◌≡◌, ℕ, Option, Some, None, List, [], ◌∷◌, ◌++◌, map, decimal, codes, Bool, true, false, slice_get, refl, sym, ap, ◌∙◌}
+use Rattle.std.proofs.lemmas.Simd.{map-map}
 use Rattle.std.specs.Borrow.{Bor}
 use Rattle.json.specs.Print.{escape_byte, escape}
-use Rattle.serde_json.specs.Data.{Data, boolean, string}
+use Rattle.serde_json.specs.Data.{Data, string}
 use Rattle.serde_json.specs.Written.{comma_if, compact_text}
+use Rattle.accepting.specs.Findings.{AcceptedBy, FindingEntry, finding_view, found_view, verdict_of}
+use Rattle.accepting.specs.declared.findings.Finding.{Finding}
+use Rattle.accepting.specs.declared.findings.FoundPackage.{FoundPackage}
+use Rattle.accepting.specs.declared.findings.Verdict.{Verdict}
+use Rattle.accepting.specs.declared.findings.Verdict.TheVariants.{Yes, Accepted, No}
 use Rattle.lexer.specs.declared.source.Source.{Source}
 use Rattle.lexer.specs.Place.{line_of, column_of}
-use Rattle.report.specs.Codes.{code_number, code_text}
+use Rattle.report.specs.Codes.{code_number, code_words}
+use Rattle.report.specs.Entries.{Entry, texts_of}
+use Rattle.report.specs.Notes.{note_words, source_of}
 use Rattle.report.specs.ReportText.{name_of, bytes_of}
-use Rattle.report.specs.declared.diagnostics.Diagnostic.{Diagnostic}
-use Rattle.report_formats.specs.Pieces.{listed, opened}
-use Rattle.report_formats.specs.JsonText.{place_members_at, place_members, diagnostic_members, diagnostic_value, is_yes, name_value, package_members, package_of, report_of, json_of}
-use Rattle.report_formats.specs.Objects.{list_of, object_of}
-use Rattle.report_formats.specs.Notes.{note_text, source_of}
-use Rattle.report_formats.specs.ExplainedJson.{note_value, explained_value}
-use Rattle.report_formats.specs.declared.notes.Note.{Note}
-use Rattle.report_formats.specs.declared.notes.ExplainedDiagnostic.{ExplainedDiagnostic}
+use Rattle.report.specs.declared.codes.Wording.{Wording}
+use Rattle.report.specs.declared.notes.Note.{Note}
+use Rattle.report_formats.specs.Pieces.{listed, members_listed, opened}
+use Rattle.report_formats.specs.Objects.{list_of, object_of, whole}
+use Rattle.report_formats.specs.JsonText.{place_members_at, place_members, said_members, reason_members, why_members, finding_value, verdict_members, package_value, note_value, json_of, json_text}
+use Rattle.report_formats.specs.Told.{notes_told, reason_text}
+use Rattle.report_formats.specs.declared.style.Style.{Style}
 use Rattle.report_formats.proofs.NoteParts.{escaped_then}
-use Rattle.report_formats.proofs.Values.{joined, joined_then, value_then_is, value_is, items_then_listed, opened_then, opened_is, object_parts, object_with_list, next_listed}
-use Rattle.report_formats.proofs.Steps.{in_two}
+use Rattle.report_formats.proofs.Values.{joined, value_then_is, value_is, items_then_listed, listed_is, opened_then, opened_is, object_parts, more_parts, last_parts}
+
+-- what stands for a finding in memory, and for a package
+abbrev pub finding_data : Style → List Source → Finding → Data
+finding_data style sources f = finding_value style sources (finding_view f)
+
+abbrev pub package_data : Style → FoundPackage → Data
+package_data style p = package_value style (found_view p)
 
 -- a place behind its comma
 abbrev pub place_pieces : (comma file : List ℕ) (line column : ℕ) → List (List ℕ)
@@ -32,29 +45,70 @@ place_here later file line column = opened_is later (place_members_at file line 
 pub place_is : (later : Bool) (file : List ℕ) (line column : ℕ) (comma : List ℕ) → comma ≡ comma_if later → opened later (place_members_at file line column) ≡ joined (place_pieces comma file line column) []
 place_is later file line column comma c = rw c (place_here later file line column)
 
--- what stands behind the place of a diagnostic
-abbrev pub diagnostic_pieces : (number name text : List ℕ) → List (List ℕ)
-diagnostic_pieces number name text =
+-- what stands behind the place of a finding
+abbrev pub said_pieces : (number name text : List ℕ) → List (List ℕ)
+said_pieces number name text =
     codes ",\"code\":\"" ∷ escape number ∷ codes "\",\"name\":\"" ∷ escape name ∷ codes "\",\"text\":\"" ∷ escape text
     ∷ codes "\"" ∷ []
 
-diagnostic_here : (later : Bool) (source : Option Source) (d : Diagnostic) → opened later (diagnostic_members source d) ≡ opened later (place_members source d.offset) ++ joined (diagnostic_pieces (code_number d.code) d.name.now (code_text d.code)) []
+said_here : (later : Bool) (wording : Wording) (source : Option Source) (said : Entry) → opened later (said_members wording source said) ≡ opened later (place_members source said.offset) ++ joined (said_pieces (code_number said.code) said.name (code_words wording said.code)) []
 unfolding escape_byte
-diagnostic_here later source d =
-    opened_is later (diagnostic_members source d)
-    ∙ sym (opened_then later (place_members source d.offset) (joined (diagnostic_pieces (code_number d.code) d.name.now (code_text d.code)) []))
+said_here later wording source said =
+    opened_is later (said_members wording source said)
+    ∙ sym (opened_then later (place_members source said.offset) (joined (said_pieces (code_number said.code) said.name (code_words wording said.code)) []))
 
-pub diagnostic_is : (later : Bool) (source : Option Source) (d : Diagnostic) (file : List ℕ) (line column : ℕ) (number text : List ℕ) → file ≡ name_of source → line ≡ line_of (bytes_of source) d.offset → column ≡ column_of (bytes_of source) d.offset → number ≡ code_number d.code → text ≡ code_text d.code → opened later (diagnostic_members source d) ≡ opened later (place_members_at file line column) ++ joined (diagnostic_pieces number d.name.now text) []
-diagnostic_is later source d file line column number text f l o n t = rw (f, l, o, n, t) (diagnostic_here later source d)
+pub said_is : (later : Bool) (wording : Wording) (source : Option Source) (said : Entry) (file : List ℕ) (line column : ℕ) (number text : List ℕ) → file ≡ name_of source → line ≡ line_of (bytes_of source) said.offset → column ≡ column_of (bytes_of source) said.offset → number ≡ code_number said.code → text ≡ code_words wording said.code → opened later (said_members wording source said) ≡ opened later (place_members_at file line column) ++ joined (said_pieces number said.name text) []
+said_is later wording source said file line column number text f l o n t =
+    rw (f, l, o, n, t) (said_here later wording source said)
 
--- a diagnostic behind its comma
-whole_is : (later : Bool) (sources : List Source) (d : Diagnostic) → comma_if later ++ compact_text (diagnostic_value sources d) ≡ opened later (diagnostic_members (slice_get sources d.file) d) ++ codes "}"
-whole_is later sources d = object_parts later (diagnostic_members (slice_get sources d.file) d) []
+-- a finding behind its comma: what is said, the reason for which it is accepted, and its notes
+pub finding_is : (later : Bool) (style : Style) (sources : List Source) (f : FindingEntry) → comma_if later ++ compact_text (finding_value style sources f) ≡ opened later (said_members style.wording (slice_get sources f.said.file) f.said) ++ (members_listed true (reason_members f.accepted) ++ (members_listed true (why_members style.with_reasons style.wording (notes_told style f)) ++ codes "}"))
+finding_is later style sources f =
+    let said = said_members style.wording (slice_get sources f.said.file) f.said in
+    let reason = reason_members f.accepted in
+    let why = why_members style.with_reasons style.wording (notes_told style f) in
+    object_parts later said (reason ++ why)
+    ∙ ap (λ t. opened later said ++ t) (more_parts reason why [] ∙ ap (λ t. members_listed true reason ++ t) (last_parts why []))
 
--- the next one
-pub next_whole : (later : Bool) (sources : List Source) (ds : List Diagnostic) (i : ℕ) (d : Diagnostic) → i < length ds → listed later (map (diagnostic_value sources) (drop i ds)) ≡ opened later (diagnostic_members (slice_get sources (get_or ds i d).file) (get_or ds i d)) ++ (codes "}" ++ listed true (map (diagnostic_value sources) (drop (i + 1) ds)))
-next_whole later sources ds i d inside =
-    in_two _ _ (listed true (map (diagnostic_value sources) (drop (i + 1) ds))) (opened later (diagnostic_members (slice_get sources (get_or ds i d).file) (get_or ds i d))) (codes "}") (next_listed (diagnostic_value sources) later ds i d inside) (whole_is later sources (get_or ds i d))
+-- the reason, in its string
+reason_here : (by : AcceptedBy) → members_listed true (reason_members (Some by)) ≡ codes ",\"accepted\":\"" ++ (escape (reason_text by) ++ codes "\"")
+unfolding escape_byte
+reason_here by = listed_is true (reason_members (Some by))
+
+pub reason_is : (accepted : Option AcceptedBy) (by : AcceptedBy) (reason : List ℕ) → accepted ≡ Some by → reason ≡ reason_text by → members_listed true (reason_members accepted) ≡ codes ",\"accepted\":\"" ++ (escape reason ++ codes "\"")
+reason_is accepted by reason a r = rw (a, r) (reason_here by)
+
+pub no_reason : (accepted : Option AcceptedBy) → accepted ≡ None → members_listed true (reason_members accepted) ≡ []
+no_reason accepted a = rw a refl
+
+-- its notes
+why_here : (wording : Wording) (notes : List Note) → members_listed true (why_members true wording notes) ≡ codes ",\"why\":[" ++ (listed false (map (note_value wording) notes) ++ codes "]")
+unfolding escape_byte
+why_here wording notes =
+    listed_is true (why_members true wording notes)
+    ∙ ap (λ t. codes ",\"why\":[" ++ t) (items_then_listed false (map (note_value wording) notes) [])
+
+pub why_is : (asked : Bool) (wording : Wording) (notes told : List Note) → asked ≡ true → told ≡ notes → members_listed true (why_members asked wording notes) ≡ codes ",\"why\":[" ++ (listed false (map (note_value wording) told) ++ codes "]")
+why_is asked wording notes told a t = rw (a, t) (why_here wording notes)
+
+pub no_why : (asked : Bool) (wording : Wording) (notes : List Note) → asked ≡ false → members_listed true (why_members asked wording notes) ≡ []
+no_why asked wording notes a = rw a refl
+
+-- a note behind its place
+abbrev pub note_pieces : (a b c d e : List ℕ) → List (List ℕ)
+note_pieces a b c d e =
+    codes ",\"text\":\"" ∷ escape a ∷ escape b ∷ escape c ∷ escape d ∷ escape e ∷ codes "\"}" ∷ []
+
+note_here : (later : Bool) (wording : Wording) (n : Note) (a b c d e : List ℕ) → a ++ (b ++ (c ++ (d ++ e))) ≡ note_words wording n.text → comma_if later ++ compact_text (note_value wording n) ≡ opened later (place_members (source_of n) n.offset) ++ joined (note_pieces a b c d e) []
+unfolding escape_byte
+note_here later wording n a b c d e are =
+    let before = place_members (source_of n) n.offset in
+    object_parts later before ((codes "text", string (note_words wording n.text)) ∷ [])
+    ∙ ap (λ t. opened later before ++ (codes ",\"text\":\"" ++ t)) (escaped_then a b c d e (note_words wording n.text) (codes "\"}") are)
+
+pub note_is : (later : Bool) (wording : Wording) (n : Note) (file : List ℕ) (line column : ℕ) (a b c d e : List ℕ) → file ≡ name_of (source_of n) → line ≡ line_of (bytes_of (source_of n)) n.offset → column ≡ column_of (bytes_of (source_of n)) n.offset → a ++ (b ++ (c ++ (d ++ e))) ≡ note_words wording n.text → comma_if later ++ compact_text (note_value wording n) ≡ opened later (place_members_at file line column) ++ joined (note_pieces a b c d e) []
+note_is later wording n file line column a b c d e f l o are =
+    rw (f, l, o) (note_here later wording n a b c d e are)
 
 -- a name behind its comma
 abbrev pub name_pieces : (comma name : List ℕ) → List (List ℕ)
@@ -66,71 +120,80 @@ name_here later name = ap (λ t. comma_if later ++ t) (value_is (string name))
 pub name_is : (later : Bool) (name comma : List ℕ) → comma ≡ comma_if later → comma_if later ++ compact_text (string name) ≡ joined (name_pieces comma name) []
 name_is later name comma c = rw c (name_here later name)
 
--- a package behind its comma, up to the fields that it keeps cancel functions in
-abbrev pub package_pieces : (comma path verdict : List ℕ) → List (List ℕ)
-package_pieces comma path verdict =
-    comma ∷ codes "{\"path\":\"" ∷ escape path ∷ codes "\",\"yes\":" ∷ verdict ∷ codes ",\"keeping\":[" ∷ []
+-- names, one by one
+abbrev pub name_value : Bor (List ℕ) → Data
+name_value name = string name.now
 
-package_here : (later : Bool) (path : List ℕ) (passes : Bool) (keeping : List (Bor (List ℕ))) → opened later (package_members path passes keeping) ≡ joined (package_pieces (comma_if later) path (compact_text (boolean passes))) [] ++ (listed false (map name_value keeping) ++ codes "]")
+pub names_are : (names : List (Bor (List ℕ))) → listed false (map string (texts_of names)) ≡ listed false (map name_value names)
+names_are names = ap (listed false) (map-map string (λ (name : Bor (List ℕ)). name.now) names)
+
+-- what is told of the verdict
+pub yes_is : (keeping : List (List ℕ)) → members_listed true (verdict_members Yes keeping) ≡ codes ",\"yes\":true,\"keeping\":[" ++ (listed false (map string keeping) ++ codes "]")
 unfolding escape_byte
-package_here later path passes keeping =
-    let pieces = package_pieces (comma_if later) path (compact_text (boolean passes)) in
-    opened_is later (package_members path passes keeping)
-    ∙ (ap (λ t. joined pieces t) (items_then_listed false (map name_value keeping) [])
-    ∙ sym (joined_then pieces (listed false (map name_value keeping) ++ codes "]")))
+yes_is keeping =
+    listed_is true (verdict_members Yes keeping)
+    ∙ ap (λ t. codes ",\"yes\":true,\"keeping\":[" ++ t) (items_then_listed false (map string keeping) [])
 
-pub package_open_is : (later : Bool) (path : List ℕ) (passes : Bool) (keeping : List (Bor (List ℕ))) (comma verdict : List ℕ) → comma ≡ comma_if later → verdict ≡ compact_text (boolean passes) → opened later (package_members path passes keeping) ≡ joined (package_pieces comma path verdict) [] ++ (listed false (map name_value keeping) ++ codes "]")
-package_open_is later path passes keeping comma verdict c y = rw (c, y) (package_here later path passes keeping)
-
--- a package is yes where the test says that there is nothing
-pub yes_is : {X : Type 0} (test : Bool) (xs : List X) → (IsTrue test ↔ (xs ≡ [])) → test ≡ is_yes xs
-yes_is true [] h = refl
-yes_is true (x ∷ xs) h = absurd (omega (arith, ap length (h.0 refl)))
-yes_is false [] h = absurd (true≢false (sym (h.1 refl)))
-yes_is false (x ∷ xs) h = refl
-
-package_whole : (later : Bool) (path : List ℕ) (passes : Bool) (keeping : List (Bor (List ℕ))) (ds : List Data) → comma_if later ++ compact_text (package_of (package_members path passes keeping) ds) ≡ opened later (package_members path passes keeping) ++ (codes ",\"diagnostics\":[" ++ (listed false ds ++ codes "]}"))
+accepted_here : (keeping : List (List ℕ)) → members_listed true (verdict_members Accepted keeping) ≡ codes ",\"yes\":false,\"accepted\":true,\"keeping\":[]"
 unfolding escape_byte
-package_whole later path passes keeping ds =
-    object_with_list later (codes "path", string path) ((codes "yes", boolean passes) ∷ (codes "keeping", list_of (map name_value keeping)) ∷ []) (codes "diagnostics") ds
+accepted_here keeping = listed_is true (verdict_members Accepted keeping)
 
--- a package behind its comma
-pub package_is : {X : Type 0} (later : Bool) (path : List ℕ) (f : X → Data) (xs : List X) (kept : List (Bor (List ℕ))) (passes : Bool) (keeping : List (Bor (List ℕ))) (ds : List X) → passes ≡ is_yes xs → keeping ≡ kept → ds ≡ xs → comma_if later ++ compact_text (package_of (package_members path (is_yes xs) kept) (map f xs)) ≡ opened later (package_members path passes keeping) ++ (codes ",\"diagnostics\":[" ++ (listed false (map f ds) ++ codes "]}"))
-package_is later path f xs kept passes keeping ds y k d = rw (y, k, d) (package_whole later path (is_yes xs) kept (map f xs))
+pub accepted_is : (verdict : Verdict) (keeping : List (List ℕ)) → verdict ≡ Accepted → members_listed true (verdict_members verdict keeping) ≡ codes ",\"yes\":false,\"accepted\":true,\"keeping\":[]"
+accepted_is verdict keeping v = rw v (accepted_here keeping)
+
+no_here : (keeping : List (List ℕ)) → members_listed true (verdict_members No keeping) ≡ codes ",\"yes\":false,\"keeping\":[]"
+unfolding escape_byte
+no_here keeping = listed_is true (verdict_members No keeping)
+
+pub no_is : (verdict : Verdict) (keeping : List (List ℕ)) → verdict ≡ No → members_listed true (verdict_members verdict keeping) ≡ codes ",\"yes\":false,\"keeping\":[]"
+no_is verdict keeping v = rw v (no_here keeping)
+
+-- a package behind its comma, up to its verdict
+abbrev pub path_pieces : (comma path : List ℕ) → List (List ℕ)
+path_pieces comma path = comma ∷ codes "{\"path\":\"" ∷ escape path ∷ codes "\"" ∷ []
+
+path_here : (later : Bool) (path : List ℕ) → opened later ((codes "path", string path) ∷ []) ≡ joined (path_pieces (comma_if later) path) []
+unfolding escape_byte
+path_here later path = opened_is later ((codes "path", string path) ∷ [])
+
+-- and behind its verdict
+diagnostics_here : (ds : List Data) → members_listed true ((codes "diagnostics", list_of ds) ∷ []) ++ codes "}" ≡ codes ",\"diagnostics\":[" ++ (listed false ds ++ codes "]}")
+unfolding escape_byte
+diagnostics_here ds =
+    sym (last_parts ((codes "diagnostics", list_of ds) ∷ []) [])
+    ∙ ap (λ t. codes ",\"diagnostics\":[" ++ t) (items_then_listed false ds (codes "}"))
+
+package_here : (later : Bool) (path : List ℕ) (verdict : Verdict) (keeping : List (List ℕ)) (ds : List Data) → comma_if later ++ compact_text (object_of ((codes "path", string path) ∷ (verdict_members verdict keeping ++ ((codes "diagnostics", list_of ds) ∷ [])))) ≡ joined (path_pieces (comma_if later) path) [] ++ (members_listed true (verdict_members verdict keeping) ++ (codes ",\"diagnostics\":[" ++ (listed false ds ++ codes "]}")))
+package_here later path verdict keeping ds =
+    let said = verdict_members verdict keeping in
+    let last = (codes "diagnostics", list_of ds) ∷ [] in
+    object_parts later ((codes "path", string path) ∷ []) (said ++ last)
+    ∙ (ap (λ t. opened later ((codes "path", string path) ∷ []) ++ t) (more_parts said last [] ∙ ap (λ t. members_listed true said ++ t) (last_parts last [] ∙ diagnostics_here ds))
+    ∙ ap (λ t. t ++ (members_listed true said ++ (codes ",\"diagnostics\":[" ++ (listed false ds ++ codes "]}")))) (path_here later path))
+
+package_seen : (later : Bool) (style : Style) (p : FoundPackage) → comma_if later ++ compact_text (package_value style (found_view p)) ≡ joined (path_pieces (comma_if later) p.path.now) [] ++ (members_listed true (verdict_members (verdict_of (map finding_view p.findings.items)) (texts_of p.keeping.items)) ++ (codes ",\"diagnostics\":[" ++ (listed false (map (finding_data style p.sources.now) p.findings.items) ++ codes "]}")))
+package_seen later style p =
+    let head = joined (path_pieces (comma_if later) p.path.now) [] in
+    let said = members_listed true (verdict_members (verdict_of (map finding_view p.findings.items)) (texts_of p.keeping.items)) in
+    package_here later p.path.now (verdict_of (map finding_view p.findings.items)) (texts_of p.keeping.items) (map (finding_value style p.sources.now) (map finding_view p.findings.items))
+    ∙ ap (λ ds. head ++ (said ++ (codes ",\"diagnostics\":[" ++ (listed false ds ++ codes "]}")))) (map-map (finding_value style p.sources.now) finding_view p.findings.items)
+
+-- the same of the lists that are lent
+pub package_is : (later : Bool) (style : Style) (p : FoundPackage) (comma : List ℕ) (verdict : Verdict) (judged : List Finding) (keeping : List (Bor (List ℕ))) (findings : List Finding) → comma ≡ comma_if later → verdict ≡ verdict_of (map finding_view judged) → judged ≡ p.findings.items → keeping ≡ p.keeping.items → findings ≡ p.findings.items → comma_if later ++ compact_text (package_value style (found_view p)) ≡ joined (path_pieces comma p.path.now) [] ++ (members_listed true (verdict_members verdict (texts_of keeping)) ++ (codes ",\"diagnostics\":[" ++ (listed false (map (finding_data style p.sources.now) findings) ++ codes "]}")))
+package_is later style p comma verdict judged keeping findings c v j k f = rw (c, v, j, k, f) (package_seen later style p)
 
 -- what stands behind the packages
 abbrev pub end_pieces : List (List ℕ)
 end_pieces = codes "],\"version\":" ∷ decimal 1 ∷ codes "}\n" ∷ []
 
--- the whole report
-pub report_is : (packages : List Data) → json_of packages ≡ codes "{\"packages\":[" ++ (listed false packages ++ joined end_pieces [])
+report_here : (packages : List Data) → json_of packages ≡ codes "{\"packages\":[" ++ (listed false packages ++ joined end_pieces [])
 unfolding escape_byte
-report_is packages =
-    value_then_is (report_of packages) (codes "\n")
+report_here packages =
+    value_then_is (object_of ((codes "packages", list_of packages) ∷ (codes "version", whole 1) ∷ [])) (codes "\n")
     ∙ ap (λ t. codes "{\"packages\":[" ++ t) (items_then_listed false packages (codes ",\"version\":" ++ (decimal 1 ++ codes "}\n")))
 
--- a note behind its place
-abbrev pub note_pieces : (a b c d e : List ℕ) → List (List ℕ)
-note_pieces a b c d e =
-    codes ",\"text\":\"" ∷ escape a ∷ escape b ∷ escape c ∷ escape d ∷ escape e ∷ codes "\"}" ∷ []
-
-note_here : (later : Bool) (n : Note) (a b c d e : List ℕ) → a ++ (b ++ (c ++ (d ++ e))) ≡ note_text n.text → comma_if later ++ compact_text (note_value n) ≡ opened later (place_members (source_of n) n.offset) ++ joined (note_pieces a b c d e) []
-unfolding escape_byte
-note_here later n a b c d e are =
-    let before = place_members (source_of n) n.offset in
-    object_parts later before ((codes "text", string (note_text n.text)) ∷ [])
-    ∙ ap (λ t. opened later before ++ (codes ",\"text\":\"" ++ t)) (escaped_then a b c d e (note_text n.text) (codes "\"}") are)
-
-pub note_is : (later : Bool) (n : Note) (file : List ℕ) (line column : ℕ) (a b c d e : List ℕ) → file ≡ name_of (source_of n) → line ≡ line_of (bytes_of (source_of n)) n.offset → column ≡ column_of (bytes_of (source_of n)) n.offset → a ++ (b ++ (c ++ (d ++ e))) ≡ note_text n.text → comma_if later ++ compact_text (note_value n) ≡ opened later (place_members_at file line column) ++ joined (note_pieces a b c d e) []
-note_is later n file line column a b c d e f l o are = rw (f, l, o) (note_here later n a b c d e are)
-
--- a diagnostic with its notes
-explained_here : (later : Bool) (source : Option Source) (d : Diagnostic) (ds : List Data) → comma_if later ++ compact_text (object_of (diagnostic_members source d ++ ((codes "why", list_of ds) ∷ []))) ≡ opened later (diagnostic_members source d) ++ (codes ",\"why\":[" ++ (listed false ds ++ codes "]}"))
-unfolding escape_byte
-explained_here later source d ds =
-    object_parts later (diagnostic_members source d) ((codes "why", list_of ds) ∷ [])
-    ∙ ap (λ t. opened later (diagnostic_members source d) ++ (codes ",\"why\":[" ++ t)) (items_then_listed false ds (codes "}"))
-
-pub explained_is : (later : Bool) (sources : List Source) (e : ExplainedDiagnostic) (notes : List Note) → notes ≡ e.notes.items → comma_if later ++ compact_text (explained_value sources e) ≡ opened later (diagnostic_members (slice_get sources e.diagnostic.file) e.diagnostic) ++ (codes ",\"why\":[" ++ (listed false (map note_value notes) ++ codes "]}"))
-explained_is later sources e notes same =
-    rw same (explained_here later (slice_get sources e.diagnostic.file) e.diagnostic (map note_value e.notes.items))
+-- the whole report
+pub report_is : (style : Style) (packages : List FoundPackage) → json_text style (map found_view packages) ≡ codes "{\"packages\":[" ++ (listed false (map (package_data style) packages) ++ joined end_pieces [])
+report_is style packages =
+    ap json_of (map-map (package_value style) found_view packages)
+    ∙ report_here (map (package_data style) packages)

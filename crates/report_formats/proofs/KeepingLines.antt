@@ -4,7 +4,7 @@ use Rattle.std.specs.Borrow.{Bor}
 use Rattle.std.specs.List.{concat}
 use Rattle.std.proofs.lemmas.List.{append-nil}
 use Rattle.report.specs.Entries.{texts_of}
-use Rattle.report.specs.ReportText.{more_names, keeping_line}
+use Rattle.report_formats.specs.ReportLines.{more_names, keeping_line}
 
 -- a name behind another one, as its pieces are put
 abbrev pub behind_comma : Bor (List ℕ) → List ℕ

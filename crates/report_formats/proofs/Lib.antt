@@ -4,12 +4,10 @@ pub mod NoteParts
 pub mod Values
 pub mod JsonPieces
 pub mod SarifPieces
-pub mod ExplainedPieces
+pub mod UnitFindings
 pub mod CodeRules
-pub mod SameTexts
-pub mod PlainTexts
 pub mod NoteLines
 pub mod KeepingLines
 pub mod ShownLines
-pub mod UnitPieces
-pub mod UnitExamples
+pub mod TextParts
+pub mod TextExamples

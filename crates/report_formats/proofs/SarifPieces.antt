@@ -1,58 +1,77 @@
 -- The text of a report in SARIF, cut into what is put.
-use Rattle.std.proofs.Common.{◌≡◌, ℕ, ◌+◌, ◌<◌, Option, slice_get, List, [], ◌∷◌, ◌++◌, length, get_or, drop, map, flat_map, decimal, codes, Bool, true, false, refl, sym, ap, ◌∙◌}
-use Rattle.std.proofs.lemmas.List.{append_assoc}
+use Rattle.std.proofs.Common.{◌≡◌, ℕ, ◌+◌, ◌<◌, Option, Some, None, slice_get, List, [], ◌∷◌, ◌++◌, length, get_or, drop, map, flat_map, decimal, codes, Bool, true, false, true≢false, refl, sym, ap, ◌∙◌}
+use Rattle.std.proofs.Math.Dec.{eqb-suc-zero}
+use Rattle.std.proofs.lemmas.List.{append_assoc, append-nil}
+use Rattle.std.proofs.lemmas.List.Folds.{flat_map-map}
+use Rattle.std.proofs.lemmas.Simd.{map-map}
+use Rattle.std.specs.Prelude.{◌==◌}
 use Rattle.json.specs.Print.{escape_byte, escape}
-use Rattle.serde_json.specs.Data.{Data}
-use Rattle.serde_json.specs.Written.{comma_if, compact_text}
+use Rattle.serde_json.specs.Data.{Data, Members}
+use Rattle.serde_json.specs.Written.{comma_if, compact_text, members_text}
+use Rattle.accepting.specs.Findings.{AcceptedBy, FindingEntry, line, baseline, finding_view, found_view}
+use Rattle.accepting.specs.declared.findings.Finding.{Finding}
+use Rattle.accepting.specs.declared.findings.FoundPackage.{FoundPackage}
 use Rattle.lexer.specs.declared.source.Place.{Place}
 use Rattle.lexer.specs.declared.source.Source.{Source}
-use Rattle.report.specs.Codes.{code_number, code_text}
+use Rattle.report.specs.Codes.{code_number, code_words}
+use Rattle.report.specs.Entries.{Entry}
+use Rattle.report.specs.Notes.{note_words, source_of}
 use Rattle.report.specs.ReportText.{name_of}
 use Rattle.report.specs.declared.codes.DiagnosticCode.{DiagnosticCode}
-use Rattle.report.specs.declared.diagnostics.Diagnostic.{Diagnostic}
+use Rattle.report.specs.declared.codes.Wording.{Wording}
+use Rattle.report.specs.declared.notes.Note.{Note}
 use Rattle.report_formats.specs.FileUris.{is_absolute, uri_scheme, uri_path}
 use Rattle.report_formats.specs.Objects.{items_of, members_of}
-use Rattle.report_formats.specs.Pieces.{listed, opened, front_for, log_front, base_text, after_results, IsPlaceOf}
-use Rattle.report_formats.specs.SarifCodes.{rule_codes, rule_index, rule_text, level}
-use Rattle.report_formats.specs.SarifText.{name_before, message, base_members, location_members, location_of, result_members, result_value, rule_value, log_value, sarif_of}
+use Rattle.report_formats.specs.Pieces.{listed, members_listed, opened, log_front, base_text, after_results, notes_front, notes_end, note_front, note_end, IsPlaceOf}
+use Rattle.report_formats.specs.SarifCodes.{rule_codes, rule_index, rule_text, level, tells_way}
+use Rattle.report_formats.specs.SarifText.{name_before, message, base_members, location_members, location_of, result_members, result_value, kind_text, suppression_members, note_location, told_note, notes_member, note_members, package_results, rule_value, log_value, sarif_of, sarif_text}
+use Rattle.report_formats.specs.Told.{notes_told, reason_text}
+use Rattle.report_formats.specs.declared.style.Style.{Style}
+use Rattle.report_formats.proofs.NoteParts.{escaped_then}
 use Rattle.report_formats.proofs.Spelled.{escape-append, file_uri_then}
-use Rattle.report_formats.proofs.Values.{joined, joined_then, items_then, members_then, value_then_is, value_is, items_then_listed, opened_then, opened_is, object_parts, next_listed, next_values}
-use Rattle.report_formats.proofs.Steps.{in_two}
+use Rattle.report_formats.proofs.Values.{joined, joined_then, value_then, items_then, members_then, members_then_is, value_then_is, value_is, items_then_listed, listed_is, opened_then, opened_is, object_parts, more_parts, next_values}
+
+-- what stands for a finding in memory, and the results of a package
+abbrev pub result_data : Style → List Source → Finding → Data
+result_data style sources f = result_value style sources (finding_view f)
+
+abbrev pub results_of : Style → FoundPackage → List Data
+results_of style p = package_results style (found_view p)
 
 -- a rule behind its comma
 abbrev pub rule_pieces : (comma number text : List ℕ) → List (List ℕ)
 rule_pieces comma number text =
     comma ∷ codes "{\"id\":\"" ∷ escape number ∷ codes "\",\"shortDescription\":{\"text\":\"" ∷ escape text ∷ codes "\"}}" ∷ []
 
-rule_here : (later : Bool) (code : DiagnosticCode) → comma_if later ++ compact_text (rule_value code) ≡ joined (rule_pieces (comma_if later) (code_number code) (rule_text code)) []
+rule_here : (later : Bool) (wording : Wording) (code : DiagnosticCode) → comma_if later ++ compact_text (rule_value wording code) ≡ joined (rule_pieces (comma_if later) (code_number code) (rule_text wording code)) []
 unfolding escape_byte
-rule_here later code = ap (λ t. comma_if later ++ t) (value_is (rule_value code))
+rule_here later wording code = ap (λ t. comma_if later ++ t) (value_is (rule_value wording code))
 
-pub rule_is : (later : Bool) (code : DiagnosticCode) (comma number text : List ℕ) → comma ≡ comma_if later → number ≡ code_number code → text ≡ rule_text code → comma_if later ++ compact_text (rule_value code) ≡ joined (rule_pieces comma number text) []
-rule_is later code comma number text c n t = rw (c, n, t) (rule_here later code)
+pub rule_is : (later : Bool) (wording : Wording) (code : DiagnosticCode) (comma number text : List ℕ) → comma ≡ comma_if later → number ≡ code_number code → text ≡ rule_text wording code → comma_if later ++ compact_text (rule_value wording code) ≡ joined (rule_pieces comma number text) []
+rule_is later wording code comma number text c n t = rw (c, n, t) (rule_here later wording code)
 
 -- where a result stands
-abbrev pub location_pieces : (scheme path base : List ℕ) (line column : ℕ) → List (List ℕ)
-location_pieces scheme path base line column =
+abbrev pub location_pieces : (scheme path base : List ℕ) (row column : ℕ) → List (List ℕ)
+location_pieces scheme path base row column =
     codes "{\"physicalLocation\":{\"artifactLocation\":{\"uri\":\"" ∷ scheme ∷ path ∷ base
-    ∷ codes "},\"region\":{\"startLine\":" ∷ decimal line ∷ codes ",\"startColumn\":" ∷ decimal column ∷ codes "}}" ∷ []
+    ∷ codes "},\"region\":{\"startLine\":" ∷ decimal row ∷ codes ",\"startColumn\":" ∷ decimal column ∷ codes "}}" ∷ []
 
 base_then : (absolute : Bool) (rest : List ℕ) → 34 ∷ members_then true (members_of (base_members absolute)) rest ≡ base_text absolute ++ 125 ∷ rest
 unfolding escape_byte
 base_then true rest = refl
 base_then false rest = refl
 
-location_here : (name : List ℕ) (line column : ℕ) → opened false (location_members name line column) ≡ joined (location_pieces (uri_scheme name) (uri_path name) (base_text (is_absolute name)) line column) []
+location_here : (name : List ℕ) (row column : ℕ) → opened false (location_members name row column) ≡ joined (location_pieces (uri_scheme name) (uri_path name) (base_text (is_absolute name)) row column) []
 unfolding escape_byte
-location_here name line column =
-    let region = joined (codes ",\"region\":{\"startLine\":" ∷ decimal line ∷ codes ",\"startColumn\":" ∷ decimal column ∷ codes "}}" ∷ []) [] in
+location_here name row column =
+    let region = joined (codes ",\"region\":{\"startLine\":" ∷ decimal row ∷ codes ",\"startColumn\":" ∷ decimal column ∷ codes "}}" ∷ []) [] in
     let begin = codes "{\"physicalLocation\":{\"artifactLocation\":{\"uri\":\"" in
-    opened_is false (location_members name line column)
+    opened_is false (location_members name row column)
     ∙ (ap (λ t. begin ++ t) (file_uri_then name (34 ∷ members_then true (members_of (base_members (is_absolute name))) region))
     ∙ ap (λ t. begin ++ (uri_scheme name ++ (uri_path name ++ t))) (base_then (is_absolute name) region))
 
-pub location_is : (name : List ℕ) (line column : ℕ) (scheme base : List ℕ) → scheme ≡ uri_scheme name → base ≡ base_text (is_absolute name) → opened false (location_members name line column) ≡ joined (location_pieces scheme (uri_path name) base line column) []
-location_is name line column scheme base s b = rw (s, b) (location_here name line column)
+pub location_is : (name : List ℕ) (row column : ℕ) (scheme base : List ℕ) → scheme ≡ uri_scheme name → base ≡ base_text (is_absolute name) → opened false (location_members name row column) ≡ joined (location_pieces scheme (uri_path name) base row column) []
+location_is name row column scheme base s b = rw (s, b) (location_here name row column)
 
 -- a result behind its comma, up to where it stands
 abbrev pub result_pieces : (comma number : List ℕ) (index : ℕ) (grave name space text : List ℕ) → List (List ℕ)
@@ -66,29 +85,56 @@ message_then name space text rest =
     ap (λ t. t ++ rest) (escape-append (name ++ space) text ∙ ap (λ t. t ++ escape text) (escape-append name space))
     ∙ (append_assoc (escape name ++ escape space) (escape text) rest ∙ append_assoc (escape name) (escape space) (escape text ++ rest))
 
-result_here : (later : Bool) (source : Option Source) (d : Diagnostic) (name space : List ℕ) → name ++ space ≡ name_before d.name.now → opened later (result_members source d) ≡ joined (result_pieces (comma_if later) (code_number d.code) (rule_index d.code) (level d.code) name space (code_text d.code)) [] ++ (opened false (location_of source d.offset) ++ codes "}]")
+result_here : (later : Bool) (wording : Wording) (source : Option Source) (d : Entry) (name space : List ℕ) → name ++ space ≡ name_before d.name → opened later (result_members wording source d) ≡ joined (result_pieces (comma_if later) (code_number d.code) (rule_index d.code) (level d.code) name space (code_words wording d.code)) [] ++ (opened false (location_of source d.offset) ++ codes "}]")
 unfolding escape_byte
-result_here later source d name space parts =
+result_here later wording source d name space parts =
     let before = comma_if later ∷ codes "{\"ruleId\":\"" ∷ escape (code_number d.code) ∷ codes "\",\"ruleIndex\":" ∷ decimal (rule_index d.code) ∷ codes ",\"level\":\"" ∷ escape (level d.code) ∷ codes "\",\"message\":{\"text\":\"" ∷ [] in
     let after = codes "\"},\"locations\":[" ++ (opened false (location_of source d.offset) ++ codes "}]") in
-    let pieces = result_pieces (comma_if later) (code_number d.code) (rule_index d.code) (level d.code) name space (code_text d.code) in
-    opened_is later (result_members source d)
-    ∙ (ap (λ t. joined before (escape (message d) ++ (codes "\"},\"locations\":[" ++ t))) (sym (opened_then false (location_of source d.offset) (codes "}]")))
-    ∙ (ap (λ n. joined before (escape (n ++ code_text d.code) ++ after)) (sym parts)
-    ∙ (ap (λ t. joined before t) (message_then name space (code_text d.code) after)
+    let pieces = result_pieces (comma_if later) (code_number d.code) (rule_index d.code) (level d.code) name space (code_words wording d.code) in
+    opened_is later (result_members wording source d)
+    ∙ (ap (λ t. joined before (escape (message wording d) ++ (codes "\"},\"locations\":[" ++ t))) (sym (opened_then false (location_of source d.offset) (codes "}]")))
+    ∙ (ap (λ n. joined before (escape (n ++ code_words wording d.code) ++ after)) (sym parts)
+    ∙ (ap (λ t. joined before t) (message_then name space (code_words wording d.code) after)
     ∙ sym (joined_then pieces (opened false (location_of source d.offset) ++ codes "}]")))))
 
-pub result_is : (later : Bool) (source : Option Source) (d : Diagnostic) (name space comma number : List ℕ) (index : ℕ) (grave text : List ℕ) → name ++ space ≡ name_before d.name.now → comma ≡ comma_if later → number ≡ code_number d.code → index ≡ rule_index d.code → grave ≡ level d.code → text ≡ code_text d.code → opened later (result_members source d) ≡ joined (result_pieces comma number index grave name space text) [] ++ (opened false (location_of source d.offset) ++ codes "}]")
-result_is later source d name space comma number index grave text parts c n i g t = rw (c, n, i, g, t) (result_here later source d name space parts)
+pub result_is : (later : Bool) (wording : Wording) (source : Option Source) (d : Entry) (name space comma number : List ℕ) (index : ℕ) (grave text : List ℕ) → name ++ space ≡ name_before d.name → comma ≡ comma_if later → number ≡ code_number d.code → index ≡ rule_index d.code → grave ≡ level d.code → text ≡ code_words wording d.code → opened later (result_members wording source d) ≡ joined (result_pieces comma number index grave name space text) [] ++ (opened false (location_of source d.offset) ++ codes "}]")
+result_is later wording source d name space comma number index grave text parts c n i g t = rw (c, n, i, g, t) (result_here later wording source d name space parts)
 
--- a result behind its comma
-whole_is : (later : Bool) (sources : List Source) (d : Diagnostic) → comma_if later ++ compact_text (result_value sources d) ≡ opened later (result_members (slice_get sources d.file) d) ++ codes "}"
-whole_is later sources d = object_parts later (result_members (slice_get sources d.file) d) []
+-- a result behind its comma: what is said, by what it is accepted, and its notes
+members_alone : (later : Bool) (ms : Members) → members_text later ms ≡ members_then later ms []
+members_alone later ms = sym (append-nil (members_text later ms)) ∙ members_then_is later ms []
 
--- the next one
-pub next_whole : (later : Bool) (sources : List Source) (ds : List Diagnostic) (i : ℕ) (d : Diagnostic) → i < length ds → listed later (map (result_value sources) (drop i ds)) ≡ opened later (result_members (slice_get sources (get_or ds i d).file) (get_or ds i d)) ++ (codes "}" ++ listed true (map (result_value sources) (drop (i + 1) ds)))
-next_whole later sources ds i d inside =
-    in_two _ _ (listed true (map (result_value sources) (drop (i + 1) ds))) (opened later (result_members (slice_get sources (get_or ds i d).file) (get_or ds i d))) (codes "}") (next_listed (result_value sources) later ds i d inside) (whole_is later sources (get_or ds i d))
+pub finding_is : (later : Bool) (style : Style) (sources : List Source) (f : FindingEntry) (notes : List Note) → notes ≡ notes_told style f → comma_if later ++ compact_text (result_value style sources f) ≡ opened later (result_members style.wording (slice_get sources f.said.file) f.said) ++ (members_listed true (suppression_members f.accepted) ++ members_text true (members_of (note_members style.wording f.said.code notes)))
+finding_is later style sources f notes n =
+    let said = result_members style.wording (slice_get sources f.said.file) f.said in
+    let by = suppression_members f.accepted in
+    let last = note_members style.wording f.said.code (notes_told style f) in
+    rw n
+    (object_parts later said (by ++ last)
+    ∙ ap (λ t. opened later said ++ t) (more_parts by last [] ∙ ap (λ t. members_listed true by ++ t) (sym (members_alone true (members_of last)))))
+
+-- by what it is accepted
+kind_here : (by : AcceptedBy) → escape (kind_text by) ≡ kind_text by
+unfolding escape_byte
+kind_here (line reason) = refl
+kind_here baseline = refl
+
+abbrev pub kind_pieces : List ℕ → List (List ℕ)
+kind_pieces kind = codes ",\"suppressions\":[{\"kind\":\"" ∷ kind ∷ codes "\",\"justification\":\"" ∷ []
+
+suppression_here : (by : AcceptedBy) → members_listed true (suppression_members (Some by)) ≡ joined (kind_pieces (escape (kind_text by))) [] ++ (escape (reason_text by) ++ codes "\"}]")
+unfolding escape_byte
+suppression_here by =
+    listed_is true (suppression_members (Some by))
+    ∙ sym (joined_then (kind_pieces (escape (kind_text by))) (escape (reason_text by) ++ codes "\"}]"))
+
+pub suppression_is : (accepted : Option AcceptedBy) (by : AcceptedBy) (kind reason : List ℕ) → accepted ≡ Some by → kind ≡ kind_text by → reason ≡ reason_text by → members_listed true (suppression_members accepted) ≡ joined (kind_pieces kind) [] ++ (escape reason ++ codes "\"}]")
+suppression_is accepted by kind reason a k r =
+    rw (a, k, r)
+    (suppression_here by ∙ ap (λ x. joined (kind_pieces x) [] ++ (escape (reason_text by) ++ codes "\"}]")) (kind_here by))
+
+pub no_suppression : (accepted : Option AcceptedBy) → accepted ≡ None → members_listed true (suppression_members accepted) ≡ []
+no_suppression accepted a = rw a refl
 
 -- what stands before the results
 abbrev pub head_text : List ℕ
@@ -97,29 +143,88 @@ head_text = codes "{\"$schema\":\"https://json.schemastore.org/sarif-2.1.0.json\
 abbrev pub middle_text : List ℕ
 middle_text = codes "]}},\"columnKind\":\"unicodeCodePoints\",\"results\":["
 
-pub front_is : (ruled : List DiagnosticCode) → ruled ≡ rule_codes → log_front ≡ head_text ++ (listed false (map rule_value ruled) ++ middle_text)
-front_is ruled same = rw same refl
+pub front_is : (wording : Wording) (ruled : List DiagnosticCode) → ruled ≡ rule_codes wording → log_front wording ≡ head_text ++ (listed false (map (rule_value wording) ruled) ++ middle_text)
+front_is wording ruled same = rw same refl
 
-log_for : (ruled : List DiagnosticCode) (results : List Data) → compact_text (log_value ruled results) ++ codes "\n" ≡ front_for ruled ++ (listed false results ++ codes "]}]}\n")
+log_here : (wording : Wording) (results : List Data) → sarif_of wording results ≡ log_front wording ++ (listed false results ++ codes "]}]}\n")
 unfolding escape_byte
-log_for ruled results =
+log_here wording results =
     let after = codes "}},\"columnKind\":\"unicodeCodePoints\",\"results\":[" ++ items_then false (items_of results) (codes "}]}\n") in
-    let rules = listed false (map rule_value ruled) in
+    let rules = listed false (map (rule_value wording) (rule_codes wording)) in
     let rest = listed false results ++ codes "]}]}\n" in
-    value_then_is (log_value ruled results) (codes "\n")
-    ∙ (ap (λ t. head_text ++ t) (items_then_listed false (map rule_value ruled) after)
+    value_then_is (log_value wording results) (codes "\n")
+    ∙ (ap (λ t. head_text ++ t) (items_then_listed false (map (rule_value wording) (rule_codes wording)) after)
     ∙ (ap (λ t. head_text ++ (rules ++ (middle_text ++ t))) (items_then_listed false results (codes "}]}\n"))
     ∙ ap (λ t. head_text ++ t) (sym (append_assoc rules middle_text rest))))
 
 -- the whole report
-pub log_is : (results : List Data) → sarif_of results ≡ log_front ++ (listed false results ++ codes "]}]}\n")
-log_is results = log_for rule_codes results
+pub log_is : (style : Style) (packages : List FoundPackage) → sarif_text style (map found_view packages) ≡ log_front style.wording ++ (listed false (flat_map (results_of style) packages) ++ codes "]}]}\n")
+log_is style packages =
+    ap (sarif_of style.wording) (flat_map-map (package_results style) found_view packages)
+    ∙ log_here style.wording (flat_map (results_of style) packages)
 
 -- the place that was put is that of the offset
 pub location_same : (source : Option Source) (offset : ℕ) (place : Place) → IsPlaceOf source offset place → (file : List ℕ) → file ≡ name_of source → (rest : List ℕ) → opened false (location_of source offset) ++ rest ≡ opened false (location_members file place.line place.column) ++ rest
 location_same source offset place is file named rest = rw (named, is.line, is.column) refl
 
 -- the results of the next package
-pub next_results : {P Y : Type 0} (several : P → List Data) (later : Bool) (reports : List P) (i : ℕ) (r : P) → i < length reports → r ≡ get_or reports i r → (f : Y → Data) (all : List Y) → several r ≡ map f all → (ds : List Y) → ds ≡ all → (after : Bool) → after ≡ after_results later all → listed later (flat_map several (drop i reports)) ≡ listed later (map f ds) ++ listed after (flat_map several (drop (i + 1) reports))
-next_results several later reports i r inside there f all are ds same after is =
-    rw (same, is) (next_values several later reports i r f all inside there are)
+pub next_results : (style : Style) (later : Bool) (ps : List FoundPackage) (i : ℕ) (p : FoundPackage) → i < length ps → p ≡ get_or ps i p → (findings : List Finding) → findings ≡ p.findings.items → (after : Bool) → after ≡ after_results later p.findings.items → listed later (flat_map (results_of style) (drop i ps)) ≡ listed later (map (result_data style p.sources.now) findings) ++ listed after (flat_map (results_of style) (drop (i + 1) ps))
+next_results style later ps i p inside there findings same after is =
+    rw (same, is)
+    (next_values (results_of style) later ps i p (result_data style p.sources.now) p.findings.items inside there
+    (map-map (result_value style p.sources.now) finding_view p.findings.items))
+
+-- all notes of a result, and its end
+notes_here : (are_steps : Bool) (notes : List Data) → members_text true (members_of (notes_member are_steps notes ∷ [])) ≡ joined (notes_front are_steps ∷ []) [] ++ (listed false notes ++ joined (notes_end are_steps ∷ []) [])
+unfolding escape_byte
+notes_here true notes =
+    members_alone true (members_of (notes_member true notes ∷ []))
+    ∙ ap (λ t. notes_front true ++ t) (items_then_listed false notes (codes "}]}]}"))
+notes_here false notes =
+    members_alone true (members_of (notes_member false notes ∷ []))
+    ∙ ap (λ t. notes_front false ++ t) (items_then_listed false notes (codes "}"))
+
+notes_for : (wording : Wording) (code : DiagnosticCode) (n : Note) (ns : List Note) (are_steps : Bool) (front end : List ℕ) → are_steps ≡ tells_way code → front ≡ notes_front are_steps → end ≡ notes_end are_steps → members_text true (members_of (note_members wording code (n ∷ ns))) ≡ joined (front ∷ []) [] ++ (listed false (map (told_note wording are_steps) (n ∷ ns)) ++ joined (end ∷ []) [])
+notes_for wording code n ns are_steps front end way f e =
+    rw (f, e)
+    (ap (λ (w : Bool). members_text true (members_of (notes_member w (map (told_note wording w) (n ∷ ns)) ∷ []))) (sym way)
+    ∙ notes_here are_steps (map (told_note wording are_steps) (n ∷ ns)))
+
+pub no_notes : (wording : Wording) (code : DiagnosticCode) (notes : List Note) → true ≡ (length notes == 0) → members_text true (members_of (note_members wording code notes)) ≡ codes "}"
+no_notes wording code [] none = refl
+no_notes wording code (n ∷ ns) none = absurd (true≢false (none ∙ eqb-suc-zero (length ns)))
+
+pub notes_are : (wording : Wording) (code : DiagnosticCode) (notes : List Note) → false ≡ (length notes == 0) → (are_steps : Bool) (front end : List ℕ) → are_steps ≡ tells_way code → front ≡ notes_front are_steps → end ≡ notes_end are_steps → members_text true (members_of (note_members wording code notes)) ≡ joined (front ∷ []) [] ++ (listed false (map (told_note wording are_steps) notes) ++ joined (end ∷ []) [])
+notes_are wording code [] some are_steps front end way f e = absurd (true≢false (sym some))
+notes_are wording code (n ∷ ns) some are_steps front end way f e = notes_for wording code n ns are_steps front end way f e
+
+-- what stands behind the place of a note
+abbrev pub message_pieces : (a b c d e end : List ℕ) → List (List ℕ)
+message_pieces a b c d e end =
+    codes ",\"message\":{\"text\":\"" ∷ escape a ∷ escape b ∷ escape c ∷ escape d ∷ escape e ∷ codes "\"}}" ∷ end ∷ []
+
+location_then : (wording : Wording) (n : Note) (a b c d e rest : List ℕ) → a ++ (b ++ (c ++ (d ++ e))) ≡ note_words wording n.text → value_then (note_location wording n) rest ≡ opened false (location_of (source_of n) n.offset) ++ joined (message_pieces a b c d e []) rest
+unfolding escape_byte
+location_then wording n a b c d e rest are =
+    let place = location_of (source_of n) n.offset in
+    let message = codes ",\"message\":{\"text\":\"" in
+    sym (opened_then false place (message ++ (escape (note_words wording n.text) ++ (codes "\"}}" ++ rest))))
+    ∙ ap (λ t. opened false place ++ (message ++ t)) (escaped_then a b c d e (note_words wording n.text) (codes "\"}}" ++ rest) are)
+
+note_here : (is_step later : Bool) (wording : Wording) (n : Note) (a b c d e : List ℕ) → a ++ (b ++ (c ++ (d ++ e))) ≡ note_words wording n.text → comma_if later ++ compact_text (told_note wording is_step n) ≡ joined (comma_if later ∷ note_front is_step ∷ []) [] ++ (opened false (location_of (source_of n) n.offset) ++ joined (message_pieces a b c d e (note_end is_step)) [])
+unfolding escape_byte
+note_here true later wording n a b c d e are =
+    let rest = opened false (location_of (source_of n) n.offset) ++ joined (message_pieces a b c d e (note_end true)) [] in
+    ap (λ t. comma_if later ++ t) (value_is (told_note wording true n) ∙ ap (λ t. note_front true ++ t) (location_then wording n a b c d e (codes "}") are))
+    ∙ sym (joined_then (comma_if later ∷ note_front true ∷ []) rest)
+note_here false later wording n a b c d e are =
+    let rest = opened false (location_of (source_of n) n.offset) ++ joined (message_pieces a b c d e (note_end false)) [] in
+    ap (λ t. comma_if later ++ t) (value_is (told_note wording false n) ∙ location_then wording n a b c d e [] are)
+    ∙ sym (joined_then (comma_if later ∷ note_front false ∷ []) rest)
+
+-- a note behind its comma
+pub note_is : (is_step later : Bool) (wording : Wording) (n : Note) (place : Place) (file comma front end a b c d e : List ℕ) → IsPlaceOf (source_of n) n.offset place → file ≡ name_of (source_of n) → comma ≡ comma_if later → front ≡ note_front is_step → end ≡ note_end is_step → a ++ (b ++ (c ++ (d ++ e))) ≡ note_words wording n.text → comma_if later ++ compact_text (told_note wording is_step n) ≡ joined (comma ∷ front ∷ []) [] ++ (opened false (location_members file place.line place.column) ++ joined (message_pieces a b c d e end) [])
+note_is is_step later wording n place file comma front end a b c d e at named k f l are =
+    rw (k, f, l)
+    (note_here is_step later wording n a b c d e are
+    ∙ ap (λ t. joined (comma_if later ∷ note_front is_step ∷ []) [] ++ t) (location_same (source_of n) n.offset place at file named (joined (message_pieces a b c d e (note_end is_step)) [])))

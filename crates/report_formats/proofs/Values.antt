@@ -5,7 +5,7 @@ use Rattle.json.specs.Token.{Token}
 use Rattle.json.specs.Print.{escape, quoted, token_text}
 use Rattle.serde_json.specs.Data.{Data, null, boolean, number, string, array, object, Items, no_items, item, Members, no_members, member}
 use Rattle.serde_json.specs.Written.{number_text, comma_if, compact_text, items_text, members_text}
-use Rattle.report_formats.specs.Objects.{items_of, list_of, members_of, object_of}
+use Rattle.report_formats.specs.Objects.{items_of, members_of, object_of}
 use Rattle.report_formats.specs.Pieces.{listed, members_listed, opened, after_results}
 
 -- texts one behind another, and then the rest
@@ -86,6 +86,10 @@ listed_then_is later (m ∷ ms) rest =
     ∙ ap (λ t. 34 ∷ (escape m.0 ++ 34 ∷ 58 ∷ t))
     (value_then_is m.1 (members_listed true ms ++ rest) ∙ ap (value_then m.1) (listed_then_is true ms rest)))
 
+-- the same alone
+pub listed_is : (later : Bool) (ms : List (List ℕ × Data)) → members_listed later ms ≡ listed_then later ms []
+listed_is later ms = sym (append-nil (members_listed later ms)) ∙ listed_then_is later ms []
+
 -- an object without its last brace, and the rest
 pub opened_then : (later : Bool) (ms : List (List ℕ × Data)) (rest : List ℕ)
     → opened later ms ++ rest ≡ comma_if later ++ 123 ∷ listed_then false ms rest
@@ -97,7 +101,7 @@ opened_then later ms rest =
 pub opened_is : (later : Bool) (ms : List (List ℕ × Data)) → opened later ms ≡ comma_if later ++ 123 ∷ listed_then false ms []
 opened_is later ms = sym (append-nil (opened later ms)) ∙ opened_then later ms []
 
-regroup : (a b c d : List ℕ) → a ++ (b ++ (c ++ d)) ≡ (a ++ (b ++ c)) ++ d
+pub regroup : (a b c d : List ℕ) → a ++ (b ++ (c ++ d)) ≡ (a ++ (b ++ c)) ++ d
 regroup a b c d = sym (append_assoc a (b ++ c) d ∙ ap (λ t. a ++ t) (append_assoc b c d))
 
 -- a list's values, its bracket, and the rest
@@ -130,16 +134,19 @@ object_parts later ms more =
     ∙ (ap (λ t. comma_if later ++ 123 ∷ t) (members_parts false ms more [])
     ∙ sym (opened_then later ms (members_then (after_results false ms) (members_of more) [])))
 
--- a last member that is a list
-abbrev pub list_member : List ℕ → List ℕ → List ℕ
-list_member key values = 44 ∷ 34 ∷ (escape key ++ 34 ∷ 58 ∷ 91 ∷ (values ++ 93 ∷ 125 ∷ []))
+-- members behind others, in two parts
+pub more_parts : (ms more : List (List ℕ × Data)) (rest : List ℕ)
+    → members_then true (members_of (ms ++ more)) rest
+    ≡ members_listed true ms ++ members_then true (members_of more) rest
+more_parts ms more rest =
+    members_parts true ms more rest
+    ∙ (ap (λ b. listed_then true ms (members_then b (members_of more) rest)) (after_true ms)
+    ∙ sym (listed_then_is true ms (members_then true (members_of more) rest)))
 
-pub object_with_list : (later : Bool) (m : List ℕ × Data) (ms : List (List ℕ × Data)) (key : List ℕ) (ds : List Data)
-    → comma_if later ++ compact_text (object_of ((m ∷ ms) ++ ((key, list_of ds) ∷ [])))
-    ≡ opened later (m ∷ ms) ++ list_member key (listed false ds)
-object_with_list later m ms key ds =
-    object_parts later (m ∷ ms) ((key, list_of ds) ∷ [])
-    ∙ ap (λ t. opened later (m ∷ ms) ++ 44 ∷ 34 ∷ (escape key ++ 34 ∷ 58 ∷ 91 ∷ t)) (items_then_listed false ds (125 ∷ []))
+-- the last members, and the object's brace
+pub last_parts : (ms : List (List ℕ × Data)) (rest : List ℕ)
+    → members_then true (members_of ms) rest ≡ members_listed true ms ++ 125 ∷ rest
+last_parts ms rest = ap (λ l. members_then true (members_of l) rest) (sym (append-nil ms)) ∙ more_parts ms [] rest
 
 -- the next value of a list that is seen through f
 pub next_listed : {X : Type 0} (f : X → Data) (later : Bool) (xs : List X) (i : ℕ) (d : X) → i < length xs → listed later (map f (drop i xs)) ≡ (comma_if later ++ compact_text (f (get_or xs i d))) ++ listed true (map f (drop (i + 1) xs))

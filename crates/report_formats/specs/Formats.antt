@@ -1,22 +1,25 @@
--- The text of a report in each of its forms, and that of an explained one.
-use Rattle.std.specs.Prelude.{ℕ, List}
-use Rattle.report.specs.ReportText.{report_text}
-use Rattle.report.specs.declared.diagnostics.PackageReport.{PackageReport}
-use Rattle.report_formats.specs.declared.formats.Format.{Format}
-use Rattle.report_formats.specs.declared.formats.Format.TheVariants.{Text, Json, Sarif}
-use Rattle.report_formats.specs.declared.notes.ExplainedPackage.{ExplainedPackage}
-use Rattle.report_formats.specs.ExplainedJson.{explained_json}
-use Rattle.report_formats.specs.ExplainedSarif.{explained_sarif}
-use Rattle.report_formats.specs.ExplainedText.{explained_text}
+-- The text of a report in each of its forms, with the notes of findings or without.
+use Rattle.std.specs.Prelude.{ℕ, Bool, List}
+use Rattle.accepting.specs.Findings.{FoundEntry}
+use Rattle.accepting.specs.Found.{found_in}
+use Rattle.accepting.specs.declared.telling.Telling.{Telling}
+use Rattle.report.specs.declared.format.Format.{Format}
+use Rattle.report.specs.declared.format.Format.TheVariants.{Text, Json, Sarif}
 use Rattle.report_formats.specs.JsonText.{json_text}
+use Rattle.report_formats.specs.ReportLines.{report_text}
 use Rattle.report_formats.specs.SarifText.{sarif_text}
+use Rattle.report_formats.specs.Told.{style_of}
+use Rattle.report_formats.specs.declared.style.Style.{Style}
 
-abbrev pub text_in : Format → List PackageReport → List ℕ
-text_in Text = report_text
-text_in Json = json_text
-text_in Sarif = sarif_text
+abbrev pub text_as : Format → Style → List FoundEntry → List ℕ
+text_as Text = report_text
+text_as Json = json_text
+text_as Sarif = sarif_text
 
-abbrev pub explained_in : Format → List ExplainedPackage → List ℕ
-explained_in Text = explained_text
-explained_in Json = explained_json
-explained_in Sarif = explained_sarif
+-- of packages in which all that is accepted is found
+abbrev pub text_of : Telling → Bool → List FoundEntry → List ℕ
+text_of telling with_reasons = text_as telling.format (style_of telling with_reasons)
+
+-- of packages of which nothing is accepted yet
+abbrev pub text_in : Telling → Bool → List FoundEntry → List ℕ
+text_in telling with_reasons packages = text_of telling with_reasons (found_in telling packages)

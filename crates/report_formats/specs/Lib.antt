@@ -1,17 +1,14 @@
--- For a reader of the contracts: the forms of a report, and the text in each.
+-- For a reader of the contracts: the text of a report in each of its forms, and that of a unit.
 pub mod Formats
+pub mod Told
+pub mod ReportLines
 pub mod JsonText
 pub mod SarifText
 pub mod SarifCodes
-pub mod CodePoints
 pub mod FileUris
-pub mod Objects
-pub mod Notes
-pub mod ExplainedText
-pub mod ExplainedJson
-pub mod ExplainedSarif
-pub mod PlainReports
+pub mod CodePoints
 pub mod UnitText
 pub mod UnitJson
+pub mod Objects
 -- What serves the proofs.
 pub mod Pieces

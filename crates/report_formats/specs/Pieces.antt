@@ -15,6 +15,7 @@ use Rattle.report_formats.specs.CodePoints.{code_point_column}
 use Rattle.report_formats.specs.FileUris.{is_kept, uri_byte}
 use Rattle.report_formats.specs.SarifCodes.{rule_codes}
 use Rattle.report_formats.specs.SarifText.{rule_value}
+use Rattle.report.specs.declared.codes.Wording.{Wording}
 use Rattle.report_formats.specs.declared.strings.Spelling.{Spelling}
 use Rattle.report_formats.specs.declared.strings.Spelling.TheVariants.{InString, InUri}
 use Rattle.report_formats.specs.declared.pieces.FormatPiece.{FormatPiece}
@@ -63,14 +64,14 @@ abbrev pub opened : Bool → List (List ℕ × Data) → List ℕ
 opened later ms = comma_if later ++ 123 ∷ members_listed false ms
 
 -- what a log says before its results, with a rule for each of these codes
-abbrev pub front_for : List DiagnosticCode → List ℕ
-front_for ruled =
+abbrev pub front_for : Wording → List DiagnosticCode → List ℕ
+front_for wording ruled =
     (codes "{\"$schema\":\"https://json.schemastore.org/sarif-2.1.0.json\",\"version\":\"2.1.0\","
     ++ codes "\"runs\":[{\"tool\":{\"driver\":{\"name\":\"ctxvet\",\"rules\":[")
-    ++ (listed false (map rule_value ruled) ++ codes "]}},\"columnKind\":\"unicodeCodePoints\",\"results\":[")
+    ++ (listed false (map (rule_value wording) ruled) ++ codes "]}},\"columnKind\":\"unicodeCodePoints\",\"results\":[")
 
-abbrev pub log_front : List ℕ
-log_front = front_for rule_codes
+abbrev pub log_front : Wording → List ℕ
+log_front wording = front_for wording (rule_codes wording)
 
 -- what stands before the notes of a result and behind them, up to the end of the result
 abbrev pub notes_front : Bool → List ℕ

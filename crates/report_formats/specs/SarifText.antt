@@ -1,20 +1,27 @@
 -- The text of a report in SARIF 2.1.0 (OASIS, "Static Analysis Results Interchange Format"): one run of `ctxvet`, and a
--- newline. The text of an object is what `serde_json` writes for it (`compact_text`).
-use Rattle.std.specs.Prelude.{ℕ, Bool, false, ◌==◌, List, [], ◌∷◌, ◌++◌, Option, slice_get, if◌then◌else◌, map, flat_map, codes}
+-- newline. The text of an object is what `serde_json` writes for it (`compact_text`). A finding that is accepted is a
+-- result that is suppressed (section 3.35). The notes of a way through a body are one code flow, and others are related
+-- locations.
+use Rattle.std.specs.Prelude.{ℕ, Bool, true, false, ◌==◌, List, [], ◌∷◌, ◌++◌, Option, None, Some, slice_get, if◌then◌else◌, map, flat_map, codes}
 use Rattle.serde_json.specs.Data.{Data, string}
 use Rattle.serde_json.specs.Written.{compact_text}
+use Rattle.accepting.specs.Findings.{AcceptedBy, FindingEntry, FoundEntry, line, baseline}
 use Rattle.lexer.specs.declared.source.Source.{Source}
 use Rattle.lexer.specs.Bytes.{minus}
 use Rattle.lexer.specs.Place.{line_of}
-use Rattle.report.specs.Codes.{code_number, code_text}
+use Rattle.report.specs.Codes.{code_number, code_words}
+use Rattle.report.specs.Entries.{Entry}
+use Rattle.report.specs.Notes.{note_words, source_of}
 use Rattle.report.specs.ReportText.{name_of, bytes_of}
 use Rattle.report.specs.declared.codes.DiagnosticCode.{DiagnosticCode}
-use Rattle.report.specs.declared.diagnostics.Diagnostic.{Diagnostic}
-use Rattle.report.specs.declared.diagnostics.PackageReport.{PackageReport}
+use Rattle.report.specs.declared.codes.Wording.{Wording}
+use Rattle.report.specs.declared.notes.Note.{Note}
 use Rattle.report_formats.specs.Objects.{object_of, list_of, whole}
 use Rattle.report_formats.specs.CodePoints.{code_point_column}
 use Rattle.report_formats.specs.FileUris.{is_absolute, file_uri}
-use Rattle.report_formats.specs.SarifCodes.{rule_codes, rule_index, rule_text, level}
+use Rattle.report_formats.specs.SarifCodes.{rule_codes, rule_index, rule_text, level, tells_way}
+use Rattle.report_formats.specs.Told.{notes_told, reason_text}
+use Rattle.report_formats.specs.declared.style.Style.{Style}
 
 -- the diagnostic speaks of no name: its name is `-`
 abbrev pub is_nameless : List ℕ → Bool
@@ -26,8 +33,8 @@ abbrev pub name_before : List ℕ → List ℕ
 name_before name = if is_nameless name then [] else name ++ codes " "
 
 -- `NAME TEXT`, or `TEXT` where there is no name
-abbrev pub message : Diagnostic → List ℕ
-message d = name_before d.name.now ++ code_text d.code
+abbrev pub message : Wording → Entry → List ℕ
+message wording said = name_before said.name ++ code_words wording said.code
 
 -- the folder that a relative name is in, as a member of the object for a file
 abbrev pub base_members : Bool → List (List ℕ × Data)
@@ -43,11 +50,15 @@ only key value = object_of ((key, value) ∷ [])
 
 -- a place in a file, by the file's name, the line, and the column in code points
 abbrev pub location_members : List ℕ → ℕ → ℕ → List (List ℕ × Data)
-location_members name line column = (
+location_members name start_line start_column = (
   codes "physicalLocation",
   object_of (
       (codes "artifactLocation", artifact name)
-      ∷ (codes "region", object_of ((codes "startLine", whole line) ∷ (codes "startColumn", whole column) ∷ []))
+      ∷ (
+        codes "region",
+        object_of (
+            (codes "startLine", whole start_line) ∷ (codes "startColumn", whole start_column) ∷ []),
+      )
       ∷ []),
 ) ∷ []
 
@@ -56,58 +67,95 @@ abbrev pub location_of : Option Source → ℕ → List (List ℕ × Data)
 location_of source offset =
     location_members (name_of source) (line_of (bytes_of source) offset) (code_point_column (bytes_of source) offset)
 
--- what is said of a diagnostic and its source
-abbrev pub result_members : Option Source → Diagnostic → List (List ℕ × Data)
-result_members source d =
-    (codes "ruleId", string (code_number d.code))
-    ∷ (codes "ruleIndex", whole (rule_index d.code))
-    ∷ (codes "level", string (level d.code))
-    ∷ (codes "message", only (codes "text") (string (message d)))
-    ∷ (codes "locations", list_of (object_of (location_of source d.offset) ∷ []))
+-- what is said of a source
+abbrev pub result_members : Wording → Option Source → Entry → List (List ℕ × Data)
+result_members wording source said =
+    (codes "ruleId", string (code_number said.code))
+    ∷ (codes "ruleIndex", whole (rule_index said.code))
+    ∷ (codes "level", string (level said.code))
+    ∷ (codes "message", only (codes "text") (string (message wording said)))
+    ∷ (codes "locations", list_of (object_of (location_of source said.offset) ∷ []))
     ∷ []
 
-abbrev pub result_in : Option Source → Diagnostic → Data
-result_in source d = object_of (result_members source d)
+-- where a finding is accepted: in its source, or elsewhere
+abbrev pub kind_text : AcceptedBy → List ℕ
+kind_text (line reason) = codes "inSource"
+kind_text baseline = codes "external"
 
--- a diagnostic of a package with these sources
-abbrev pub result_value : List Source → Diagnostic → Data
-result_value sources d = result_in (slice_get sources d.file) d
+abbrev pub suppression : AcceptedBy → Data
+suppression by =
+    object_of ((codes "kind", string (kind_text by)) ∷ (codes "justification", string (reason_text by)) ∷ [])
 
--- the diagnostics of one package
-abbrev pub package_results : PackageReport → List Data
-package_results r = map (result_value r.sources.now) r.diagnostics.items
+abbrev pub suppression_members : Option AcceptedBy → List (List ℕ × Data)
+suppression_members None = []
+suppression_members (Some by) = (codes "suppressions", list_of (suppression by ∷ [])) ∷ []
+
+-- the place of a note, and what it says
+abbrev pub note_location : Wording → Note → Data
+note_location wording n = object_of (
+    location_of (source_of n) n.offset
+    ++ ((codes "message", only (codes "text") (string (note_words wording n.text))) ∷ []))
+
+-- a note by itself, or as a step of a way
+abbrev pub told_note : Wording → (is_step : Bool) → Note → Data
+told_note wording true n = only (codes "location") (note_location wording n)
+told_note wording false n = note_location wording n
+
+-- these notes, as the steps of one way or by themselves
+abbrev pub notes_member : (are_steps : Bool) → List Data → List ℕ × Data
+notes_member true notes = (
+  codes "codeFlows",
+  list_of (only (codes "threadFlows") (list_of (only (codes "locations") (list_of notes) ∷ [])) ∷ []),
+)
+notes_member false notes = (codes "relatedLocations", list_of notes)
+
+-- the notes of a diagnostic with this code, if there are some
+abbrev pub note_members : Wording → DiagnosticCode → List Note → List (List ℕ × Data)
+note_members wording code [] = []
+note_members wording code (n ∷ ns) =
+    notes_member (tells_way code) (map (told_note wording (tells_way code)) (n ∷ ns)) ∷ []
+
+-- a finding of a package with these sources
+abbrev pub result_value : Style → List Source → FindingEntry → Data
+result_value style sources f = object_of (
+    result_members style.wording (slice_get sources f.said.file) f.said
+    ++ (suppression_members f.accepted ++ note_members style.wording f.said.code (notes_told style f)))
+
+-- the findings of one package
+abbrev pub package_results : Style → FoundEntry → List Data
+package_results style p = map (result_value style p.sources) p.findings
 
 -- the rule of a code
-abbrev pub rule_value : DiagnosticCode → Data
-rule_value code = object_of (
+abbrev pub rule_value : Wording → DiagnosticCode → Data
+rule_value wording code = object_of (
     (codes "id", string (code_number code))
-    ∷ (codes "shortDescription", only (codes "text") (string (rule_text code)))
+    ∷ (codes "shortDescription", only (codes "text") (string (rule_text wording code)))
     ∷ [])
 
--- what found the results, with a rule for each of these codes
-abbrev pub driver : List DiagnosticCode → Data
-driver ruled = object_of (
+-- what found the results, with a rule for each code
+abbrev pub driver : Wording → Data
+driver wording = object_of (
     (codes "name", string (codes "ctxvet"))
-    ∷ (codes "rules", list_of (map rule_value ruled))
+    ∷ (codes "rules", list_of (map (rule_value wording) (rule_codes wording)))
     ∷ [])
 
-abbrev pub run_value : List DiagnosticCode → List Data → Data
-run_value ruled results = object_of (
-    (codes "tool", only (codes "driver") (driver ruled))
+abbrev pub run_value : Wording → List Data → Data
+run_value wording results = object_of (
+    (codes "tool", only (codes "driver") (driver wording))
     ∷ (codes "columnKind", string (codes "unicodeCodePoints"))
     ∷ (codes "results", list_of results)
     ∷ [])
 
-abbrev pub log_value : List DiagnosticCode → List Data → Data
-log_value ruled results = object_of (
+abbrev pub log_value : Wording → List Data → Data
+log_value wording results = object_of (
     (codes "$schema", string (codes "https://json.schemastore.org/sarif-2.1.0.json"))
     ∷ (codes "version", string (codes "2.1.0"))
-    ∷ (codes "runs", list_of (run_value ruled results ∷ []))
+    ∷ (codes "runs", list_of (run_value wording results ∷ []))
     ∷ [])
 
 -- the whole report, of these results
-abbrev pub sarif_of : List Data → List ℕ
-sarif_of results = compact_text (log_value rule_codes results) ++ codes "\n"
+abbrev pub sarif_of : Wording → List Data → List ℕ
+sarif_of wording results = compact_text (log_value wording results) ++ codes "\n"
 
-abbrev pub sarif_text : List PackageReport → List ℕ
-sarif_text reports = sarif_of (flat_map package_results reports)
+abbrev pub sarif_text : Style → List FoundEntry → List ℕ
+sarif_text style packages = sarif_of style.wording (flat_map (package_results style) packages)

@@ -1,16 +1,24 @@
 -- A unit's report as JSON: one object with the unit's name, and a newline.
 -- (golang.org/x/tools/go/analysis, JSONTree of internal/analysisflags. What the text of an object is, with the escapes
 -- in its strings, is what `serde_json` writes for it.)
-use Rattle.std.specs.Prelude.{ℕ, List, [], ◌∷◌, ◌++◌, Option, slice_get, map, decimal, codes}
+use Rattle.std.specs.Prelude.{ℕ, if◌then◌else◌, List, [], ◌∷◌, ◌++◌, Option, slice_get, map, filter, decimal, codes}
 use Rattle.serde_json.specs.Data.{Data, string}
 use Rattle.serde_json.specs.Written.{compact_text}
 use Rattle.lexer.specs.Place.{line_of, column_of}
 use Rattle.lexer.specs.declared.source.Source.{Source}
-use Rattle.report.specs.Codes.{code_number, code_text}
+use Rattle.accepting.specs.Findings.{FindingEntry, FoundEntry}
+use Rattle.report.specs.Codes.{code_number, code_words}
+use Rattle.report.specs.Entries.{Entry}
+use Rattle.report.specs.Notes.{note_words, source_of}
+use Rattle.report.specs.declared.codes.Wording.{Wording}
+use Rattle.report.specs.declared.codes.Wording.TheVariants.{First, Second}
+use Rattle.report.specs.declared.notes.Note.{Note}
 use Rattle.report.specs.ReportText.{name_of, bytes_of}
-use Rattle.report.specs.declared.diagnostics.Diagnostic.{Diagnostic}
-use Rattle.report.specs.declared.diagnostics.PackageReport.{PackageReport}
 use Rattle.report_formats.specs.Objects.{object_of, list_of}
+use Rattle.report_formats.specs.ReportLines.{reason_shown}
+use Rattle.report_formats.specs.SarifText.{name_before}
+use Rattle.report_formats.specs.Told.{is_told}
+use Rattle.report_formats.specs.declared.style.Style.{Style}
 
 -- `FILE:LINE:COLUMN`, the column in bytes
 abbrev pub position_at : List ℕ → List ℕ → List ℕ → List ℕ
@@ -22,18 +30,43 @@ position_in source offset =
     (decimal (line_of (bytes_of source) offset))
     (decimal (column_of (bytes_of source) offset))
 
--- a diagnostic and its source, by its code, its place and its text
-abbrev pub finding_in : Option Source → Diagnostic → Data
-finding_in source d =
-    object_of
-    ((codes "category", string (code_number d.code))
-    ∷ (codes "posn", string (position_in source d.offset))
-    ∷ (codes "message", string (code_text d.code))
+-- what stands before the text of a code: by the first edition of the rules nothing, by the second one the name
+abbrev pub name_in : Wording → List ℕ → List ℕ
+name_in First name = []
+name_in Second name = name_before name
+
+-- what is said
+abbrev pub said_in : Wording → Entry → List ℕ
+said_in wording said = name_in wording said.name ++ code_words wording said.code
+
+-- a note, by its place and its text
+abbrev pub related_value : Wording → Note → Data
+related_value wording n = object_of (
+    (codes "posn", string (position_in (source_of n) n.offset))
+    ∷ (codes "message", string (note_words wording n.text))
     ∷ [])
 
--- a diagnostic of a unit with these sources
-abbrev pub finding_value : List Source → Diagnostic → Data
-finding_value sources d = finding_in (slice_get sources d.file) d
+abbrev pub related_members : Style → List Note → List (List ℕ × Data)
+related_members style notes =
+    if style.with_reasons then (codes "related", list_of (map (related_value style.wording) notes)) ∷ [] else []
+
+-- a finding by its code and its place
+abbrev pub found_members : Option Source → Entry → List (List ℕ × Data)
+found_members source said =
+    (codes "category", string (code_number said.code)) ∷ (codes "posn", string (position_in source said.offset)) ∷ []
+
+-- what is said of it, and the reason for which it is accepted
+abbrev pub message_members : Wording → FindingEntry → List (List ℕ × Data)
+message_members wording f = (codes "message", string (said_in wording f.said ++ reason_shown f.accepted)) ∷ []
+
+-- a finding of a unit with these sources
+abbrev pub unit_finding : Style → List Source → FindingEntry → Data
+unit_finding style sources f = object_of (
+    found_members (slice_get sources f.said.file) f.said
+    ++ (message_members style.wording f ++ related_members style f.notes))
+
+abbrev pub unit_findings : Style → List Source → List FindingEntry → List Data
+unit_findings style sources findings = map (unit_finding style sources) (filter (is_told style) findings)
 
 -- the findings of this tool in the unit of this name
 abbrev pub unit_value : List ℕ → List Data → Data
@@ -42,5 +75,5 @@ unit_value name findings = object_of ((name, object_of ((codes "ctxvet", list_of
 abbrev pub unit_json_of : List ℕ → List Data → List ℕ
 unit_json_of name findings = compact_text (unit_value name findings) ++ codes "\n"
 
-abbrev pub unit_json : List ℕ → PackageReport → List ℕ
-unit_json name r = unit_json_of name (map (finding_value r.sources.now) r.diagnostics.items)
+abbrev pub unit_json : Style → List ℕ → FoundEntry → List ℕ
+unit_json style name p = unit_json_of name (unit_findings style p.sources p.findings)

@@ -6,12 +6,11 @@ use Rattle.std.specs.Prelude.{ℕ, ◌+◌, ◌-◌, ◌==◌, ◌&&◌, nat_le,
 use Rattle.lexer.specs.Bytes.{line_feed}
 use Rattle.lexer.specs.Place.{line_of}
 use Rattle.lexer.specs.declared.source.Source.{Source}
-use Rattle.report.specs.ReportText.{bytes_of, diagnostic_line}
-use Rattle.report.specs.declared.diagnostics.Diagnostic.{Diagnostic}
-use Rattle.report.specs.declared.diagnostics.PackageReport.{PackageReport}
-use Rattle.report_formats.specs.ExplainedText.{note_line}
-use Rattle.report_formats.specs.declared.notes.ExplainedDiagnostic.{ExplainedDiagnostic}
-use Rattle.report_formats.specs.declared.notes.ExplainedPackage.{ExplainedPackage}
+use Rattle.accepting.specs.Findings.{FindingEntry, FoundEntry}
+use Rattle.report.specs.ReportText.{bytes_of}
+use Rattle.report_formats.specs.ReportLines.{finding_line, note_line}
+use Rattle.report_formats.specs.Told.{is_told}
+use Rattle.report_formats.specs.declared.style.Style.{Style}
 
 abbrev pub before_first_line : ℕ → List (List ℕ) → List (List ℕ)
 before_first_line b [] = (b ∷ []) ∷ []
@@ -44,21 +43,20 @@ abbrev pub lines_around : Option ℕ → List ℕ → ℕ → List ℕ
 lines_around None text line = []
 lines_around (Some around) text line = shown_from (is_near around line) 1 (lines_of text)
 
-abbrev pub lines_in : Option ℕ → Option Source → Diagnostic → List ℕ
-lines_in around source d = lines_around around (bytes_of source) (line_of (bytes_of source) d.offset)
+-- the bytes of a source of this number
+abbrev pub text_at : List Source → ℕ → List ℕ
+text_at sources file = bytes_of (slice_get sources file)
 
--- the line of a diagnostic of a unit with these sources, and the lines around its place
-abbrev pub unit_lines : Option ℕ → List Source → Diagnostic → List ℕ
-unit_lines around sources d = diagnostic_line sources d ++ lines_in around (slice_get sources d.file) d
+-- what is told of a finding of a unit with these sources: its line, the lines around its place, and its notes
+abbrev pub unit_lines : Style → Option ℕ → List Source → FindingEntry → List ℕ
+unit_lines style around sources f =
+    finding_line style.wording sources f
+    ++ (lines_around around (text_at sources f.said.file) (line_of (text_at sources f.said.file) f.said.offset)
+    ++ flat_map (note_line style.wording) f.notes)
+
+abbrev pub unit_told : Style → Option ℕ → List Source → FindingEntry → List ℕ
+unit_told style around sources f = if is_told style f then unit_lines style around sources f else []
 
 -- all that is printed of a unit
-abbrev pub unit_text : Option ℕ → PackageReport → List ℕ
-unit_text around r = flat_map (unit_lines around r.sources.now) r.diagnostics.items
-
--- the same of a diagnostic with its notes
-abbrev pub explained_unit_lines : Option ℕ → List Source → ExplainedDiagnostic → List ℕ
-explained_unit_lines around sources e =
-    unit_lines around sources e.diagnostic ++ flat_map note_line e.notes.items
-
-abbrev pub explained_unit_text : Option ℕ → ExplainedPackage → List ℕ
-explained_unit_text around p = flat_map (explained_unit_lines around p.sources.now) p.diagnostics.items
+abbrev pub unit_text : Style → Option ℕ → FoundEntry → List ℕ
+unit_text style around p = flat_map (unit_told style around p.sources) p.findings

@@ -1,76 +1,66 @@
 //! A report as JSON.
 
-ghost use Rattle.std.specs.Prelude.{◌≡◌, ◌++◌, false, slice_get, map};
-ghost use Rattle.serde_json.specs.Data.{boolean, string};
-ghost use Rattle.serde_json.specs.Written.{comma_if, compact_text};
+ghost use Rattle.std.specs.Prelude.{◌≡◌, ◌++◌, false, true, map, option_map, slice_get};
+ghost use Rattle.accepting.specs.Findings.{accepted_view, finding_view, found_view};
+ghost use Rattle.accepting.specs.declared.findings.Verdict.TheVariants.{Yes};
+ghost use Rattle.report.specs.Entries.{entry_of, texts_of};
 ghost use Rattle.report.specs.Writing.{refusals_after, IsWritten};
-ghost use Rattle.report_formats.specs.JsonText.{place_members_at, diagnostic_members, diagnostic_value, name_value, package_members, package_value, json_text};
-ghost use Rattle.report_formats.specs.Pieces.{listed, opened, IsBytePlace};
+ghost use Rattle.report_formats.specs.JsonText.{finding_value, json_text, note_value, package_value, place_members_at, reason_members, said_members, verdict_members, why_members};
+ghost use Rattle.report_formats.specs.Pieces.{IsBytePlace, listed, members_listed, opened};
+ghost use Rattle.report_formats.specs.Told.{notes_told};
+ghost use Rattle.serde_json.specs.Data.{string};
+ghost use Rattle.serde_json.specs.Written.{comma_if, compact_text};
 
+use crate::notes::{note_place, text_parts};
 use crate::pieces::FormatPiece::{Number, Plain, Spelled};
 use crate::pieces::{comma, name_of, put_each};
 use crate::strings::Spelling::InString;
+use crate::strings::put_spelled;
+use crate::style::{Style, notes_told, reason_text};
+use accepting::{Acceptance, Finding, FoundPackage, Verdict, verdict_of};
 use lexer::{Place, Source};
-use report::{Diagnostic, PackageReport, Sink, WriteFault, first_byte, moved, put_all};
+use report::{Diagnostic, Note, Sink, Wording, WriteFault, first_byte, moved, put_all};
 
-/// Writes the report as one JSON object and a newline. Where the diagnostics are in their order, this reads each source
+/// Writes the report as one JSON object and a newline. Where the findings are in their order, this reads each source
 /// but once.
-///
-/// # Errors
-///
-/// A put failed or took nothing. A beginning of the text is taken then, and not all of it.
-pub fn write_json<S: Sink>(reports: &[PackageReport], sink: &mut S) -> Result<(), WriteFault>
-    ensures taken { IsWritten (json_text reports.now) (S.taken sink.old) (S.taken sink.new) result }
+pub fn write_json<S: Sink>(
+    style: Style,
+    packages: &[FoundPackage],
+    sink: &mut S,
+) -> Result<(), WriteFault>
+    ensures taken { IsWritten (json_text style (map found_view packages.now))
+        (S.taken sink.old) (S.taken sink.new) result }
     ensures refusals { S.refusals sink.new ≡ refusals_after (S.refusals sink.old) result }
 {
     put_all(b"{\"packages\":[", sink)?;
-    write_packages(reports, sink)?;
+    write_packages(style, packages, sink)?;
     put_each(&[Plain("],\"version\":"), Number(1), Plain("}\n")], sink)
 }
 
-fn write_packages<S: Sink>(reports: &[PackageReport], sink: &mut S) -> Result<(), WriteFault>
-    ensures taken { IsWritten (listed false (map package_value reports.now))
+fn write_packages<S: Sink>(
+    style: Style,
+    packages: &[FoundPackage],
+    sink: &mut S,
+) -> Result<(), WriteFault>
+    ensures taken { IsWritten (listed false (map (λ p. package_value style (found_view p)) packages.now))
         (S.taken sink.old) (S.taken sink.new) result }
     ensures refusals { S.refusals sink.new ≡ refusals_after (S.refusals sink.old) result }
 {
     let mut is_later = false;
-    for report in reports {
-        write_package(report, is_later, sink)?;
+    for package in packages {
+        write_package(style, package, is_later, sink)?;
         is_later = true;
     }
     Ok(())
 }
 
 fn write_package<S: Sink>(
-    report: &PackageReport,
+    style: Style,
+    found: &FoundPackage,
     is_later: bool,
     sink: &mut S,
 ) -> Result<(), WriteFault>
-    ensures taken { IsWritten (comma_if is_later ++ compact_text (package_value report.now))
-        (S.taken sink.old) (S.taken sink.new) result }
-    ensures refusals { S.refusals sink.new ≡ refusals_after (S.refusals sink.old) result }
-{
-    open_package(
-        report.path,
-        report.is_yes(),
-        &report.keeping,
-        is_later,
-        sink,
-    )?;
-    put_all(b",\"diagnostics\":[", sink)?;
-    write_diagnostics(report.sources, &report.diagnostics, sink)?;
-    put_all(b"]}", sink)
-}
-
-/// Writes what is said of a package before its diagnostics.
-pub fn open_package<S: Sink>(
-    path: &str,
-    is_yes: bool,
-    keeping: &[&str],
-    is_later: bool,
-    sink: &mut S,
-) -> Result<(), WriteFault>
-    ensures taken { IsWritten (opened is_later (package_members path.now is_yes keeping.now))
+    ensures taken { IsWritten (comma_if is_later ++ compact_text (package_value style (found_view found.now)))
         (S.taken sink.old) (S.taken sink.new) result }
     ensures refusals { S.refusals sink.new ≡ refusals_after (S.refusals sink.old) result }
 {
@@ -78,25 +68,47 @@ pub fn open_package<S: Sink>(
         &[
             Plain(comma(is_later)),
             Plain("{\"path\":\""),
-            Spelled(InString, path),
-            Plain("\",\"yes\":"),
-            Plain(verdict(is_yes)),
-            Plain(",\"keeping\":["),
+            Spelled(InString, found.path),
+            Plain("\""),
         ],
         sink,
     )?;
+    write_verdict(verdict_of(&found.findings), &found.keeping, sink)?;
+    put_all(b",\"diagnostics\":[", sink)?;
+    write_findings(style, found.sources, &found.findings, sink)?;
+    put_all(b"]}", sink)
+}
+
+/// Writes the members of a package that tell of its verdict.
+fn write_verdict<S: Sink>(
+    verdict: Verdict,
+    keeping: &[&str],
+    sink: &mut S,
+) -> Result<(), WriteFault>
+    ensures taken { IsWritten (members_listed true (verdict_members verdict (texts_of keeping.now)))
+        (S.taken sink.old) (S.taken sink.new) result }
+    ensures refusals { S.refusals sink.new ≡ refusals_after (S.refusals sink.old) result }
+{
+    match verdict {
+        Verdict::Yes => write_yes(keeping, sink),
+        Verdict::Accepted => put_all(b",\"yes\":false,\"accepted\":true,\"keeping\":[]", sink),
+        Verdict::No => put_all(b",\"yes\":false,\"keeping\":[]", sink),
+    }
+}
+
+/// Writes those of a package that is yes, with the fields in which it keeps cancel functions.
+fn write_yes<S: Sink>(keeping: &[&str], sink: &mut S) -> Result<(), WriteFault>
+    ensures taken { IsWritten (members_listed true (verdict_members Yes (texts_of keeping.now)))
+        (S.taken sink.old) (S.taken sink.new) result }
+    ensures refusals { S.refusals sink.new ≡ refusals_after (S.refusals sink.old) result }
+{
+    put_all(b",\"yes\":true,\"keeping\":[", sink)?;
     write_names(keeping, sink)?;
     put_all(b"]", sink)
 }
 
-fn verdict(is_yes: bool) -> &'static str
-    ensures { result.now ≡ compact_text (boolean is_yes) }
-{
-    if is_yes { "true" } else { "false" }
-}
-
 fn write_names<S: Sink>(names: &[&str], sink: &mut S) -> Result<(), WriteFault>
-    ensures taken { IsWritten (listed false (map name_value names.now))
+    ensures taken { IsWritten (listed false (map string (texts_of names.now)))
         (S.taken sink.old) (S.taken sink.new) result }
     ensures refusals { S.refusals sink.new ≡ refusals_after (S.refusals sink.old) result }
 {
@@ -124,28 +136,58 @@ fn write_name<S: Sink>(name: &str, is_later: bool, sink: &mut S) -> Result<(), W
     )
 }
 
-fn write_diagnostics<S: Sink>(
+fn write_findings<S: Sink>(
+    style: Style,
     sources: &[Source],
-    diagnostics: &[Diagnostic],
+    findings: &[Finding],
     sink: &mut S,
 ) -> Result<(), WriteFault>
-    ensures taken { IsWritten (listed false (map (diagnostic_value sources.now) diagnostics.now))
+    ensures taken { IsWritten (listed false (map (λ f. finding_value style sources.now (finding_view f)) findings.now))
         (S.taken sink.old) (S.taken sink.new) result }
     ensures refusals { S.refusals sink.new ≡ refusals_after (S.refusals sink.old) result }
 {
     let mut cursor = first_byte(0);
     let mut is_later = false;
-    for diagnostic in diagnostics {
+    for finding in findings {
+        let diagnostic = &finding.diagnostic;
         cursor = moved(cursor, sources, diagnostic.file, diagnostic.offset as usize);
-        open_diagnostic(sources, diagnostic, cursor.place, is_later, sink)?;
-        put_all(b"}", sink)?;
+        write_finding(style, sources, finding, cursor.place, is_later, sink)?;
         is_later = true;
     }
     Ok(())
 }
 
+/// Writes a finding, which stands at this place.
+fn write_finding<'a, S: Sink>(
+    style: Style,
+    sources: &'a [Source],
+    finding: &'a Finding<'a>,
+    place: Place,
+    is_later: bool,
+    sink: &mut S,
+) -> Result<(), WriteFault>
+    requires { IsBytePlace (slice_get sources.now finding.now.diagnostic.file) finding.now.diagnostic.offset place }
+    ensures taken { IsWritten
+        (comma_if is_later ++ compact_text (finding_value style sources.now (finding_view finding.now)))
+        (S.taken sink.old) (S.taken sink.new) result }
+    ensures refusals { S.refusals sink.new ≡ refusals_after (S.refusals sink.old) result }
+{
+    open_diagnostic(
+        style.wording,
+        sources,
+        &finding.diagnostic,
+        place,
+        is_later,
+        sink,
+    )?;
+    write_reason(finding.acceptance, sink)?;
+    write_why(style, finding, sink)?;
+    put_all(b"}", sink)
+}
+
 /// Writes what is said of a diagnostic, which stands at this place.
-pub fn open_diagnostic<'a, S: Sink>(
+fn open_diagnostic<'a, S: Sink>(
+    wording: Wording,
     sources: &'a [Source],
     diagnostic: &'a Diagnostic<'a>,
     place: Place,
@@ -154,7 +196,7 @@ pub fn open_diagnostic<'a, S: Sink>(
 ) -> Result<(), WriteFault>
     requires { IsBytePlace (slice_get sources.now diagnostic.now.file) diagnostic.now.offset place }
     ensures taken { IsWritten
-        (opened is_later (diagnostic_members (slice_get sources.now diagnostic.now.file) diagnostic.now))
+        (opened is_later (said_members wording (slice_get sources.now diagnostic.now.file) (entry_of diagnostic.now)))
         (S.taken sink.old) (S.taken sink.new) result }
     ensures refusals { S.refusals sink.new ≡ refusals_after (S.refusals sink.old) result }
 {
@@ -166,7 +208,7 @@ pub fn open_diagnostic<'a, S: Sink>(
             Plain("\",\"name\":\""),
             Spelled(InString, diagnostic.name),
             Plain("\",\"text\":\""),
-            Spelled(InString, diagnostic.code.text()),
+            Spelled(InString, diagnostic.code.words(wording)),
             Plain("\""),
         ],
         sink,
@@ -174,7 +216,7 @@ pub fn open_diagnostic<'a, S: Sink>(
 }
 
 /// Writes a file, by its name, and a place in it.
-pub fn open_place<S: Sink>(
+fn open_place<S: Sink>(
     file: &str,
     place: Place,
     is_later: bool,
@@ -193,6 +235,87 @@ pub fn open_place<S: Sink>(
             Number(place.line),
             Plain(",\"column\":"),
             Number(place.column),
+        ],
+        sink,
+    )
+}
+
+/// Writes the reason for which a finding is accepted, if it is.
+fn write_reason<'a, S: Sink>(
+    acceptance: Option<Acceptance<'a>>,
+    sink: &mut S,
+) -> Result<(), WriteFault>
+    ensures taken { IsWritten (members_listed true (reason_members (option_map accepted_view acceptance.entry)))
+        (S.taken sink.old) (S.taken sink.new) result }
+    ensures refusals { S.refusals sink.new ≡ refusals_after (S.refusals sink.old) result }
+{
+    let Some(by) = acceptance else {
+        return Ok(());
+    };
+    put_all(b",\"accepted\":\"", sink)?;
+    put_spelled(InString, reason_text(by), sink)?;
+    put_all(b"\"", sink)
+}
+
+/// Writes the notes of a finding, where they are asked for.
+fn write_why<'a, S: Sink>(
+    style: Style,
+    finding: &'a Finding<'a>,
+    sink: &mut S,
+) -> Result<(), WriteFault>
+    ensures taken { IsWritten
+        (members_listed true
+        (why_members style.with_reasons style.wording (notes_told style (finding_view finding.now))))
+        (S.taken sink.old) (S.taken sink.new) result }
+    ensures refusals { S.refusals sink.new ≡ refusals_after (S.refusals sink.old) result }
+{
+    if !style.with_reasons {
+        return Ok(());
+    }
+    put_all(b",\"why\":[", sink)?;
+    write_notes(style.wording, notes_told(style, finding), sink)?;
+    put_all(b"]", sink)
+}
+
+fn write_notes<S: Sink>(wording: Wording, notes: &[Note], sink: &mut S) -> Result<(), WriteFault>
+    ensures taken { IsWritten (listed false (map (note_value wording) notes.now))
+        (S.taken sink.old) (S.taken sink.new) result }
+    ensures refusals { S.refusals sink.new ≡ refusals_after (S.refusals sink.old) result }
+{
+    let mut is_later = false;
+    for note in notes {
+        write_note(wording, note, is_later, sink)?;
+        is_later = true;
+    }
+    Ok(())
+}
+
+fn write_note<'a, S: Sink>(
+    wording: Wording,
+    note: &'a Note<'a>,
+    is_later: bool,
+    sink: &mut S,
+) -> Result<(), WriteFault>
+    ensures taken { IsWritten (comma_if is_later ++ compact_text (note_value wording note.now))
+        (S.taken sink.old) (S.taken sink.new) result }
+    ensures refusals { S.refusals sink.new ≡ refusals_after (S.refusals sink.old) result }
+{
+    let (first, second, third, fourth, fifth) = text_parts(wording, note.text);
+    open_place(
+        name_of(note.sources, note.file),
+        note_place(note),
+        is_later,
+        sink,
+    )?;
+    put_each(
+        &[
+            Plain(",\"text\":\""),
+            Spelled(InString, first),
+            Spelled(InString, second),
+            Spelled(InString, third),
+            Spelled(InString, fourth),
+            Spelled(InString, fifth),
+            Plain("\"}"),
         ],
         sink,
     )

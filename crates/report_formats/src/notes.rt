@@ -1,67 +1,24 @@
-//! Notes below diagnostics, which say why these stand where they stand.
+//! What notes say, and where they stand.
 
-ghost use Rattle.std.specs.Prelude.{◌≡◌, ◌↔◌, ◌++◌, [], IsTrue};
-ghost use Rattle.report_formats.specs.Notes.{note_text, source_of};
+ghost use Rattle.std.specs.Prelude.{◌≡◌, ◌++◌};
+ghost use Rattle.report.specs.Notes.{note_words, source_of};
 ghost use Rattle.report_formats.specs.Pieces.{IsBytePlace};
 
-use lexer::{Place, Source};
-use report::{Diagnostic, DiagnosticCode, first_byte, moved};
-
-/// What a note says.
-#[derive(Clone, Copy, Debug)]
-pub enum NoteText<'a> {
-    /// These words.
-    Words(&'static str),
-    /// A name between words.
-    Named(&'static str, &'a str, &'static str),
-    /// Another diagnostic, by its code and its name: `CODE NAME TEXT`.
-    Finding(DiagnosticCode, &'a str),
-}
-
-/// A note: the number of its file among these sources, from 0, the byte offset in it, and what is said of that place.
-#[derive(Clone, Copy, Debug)]
-pub struct Note<'a> {
-    pub sources: &'a [Source],
-    pub file: usize,
-    pub offset: u32,
-    pub text: NoteText<'a>,
-}
-
-/// A diagnostic and its notes, in the order in which they are to be read.
-#[derive(Debug, Drop)]
-pub struct ExplainedDiagnostic<'a> {
-    pub diagnostic: Diagnostic<'a>,
-    pub notes: Vec<Note<'a>>,
-}
-
-/// What is said of the package of this import path, whose files are the sources, and why.
-#[derive(Debug, Drop)]
-pub struct ExplainedPackage<'a> {
-    pub path: &'a str,
-    pub sources: &'a [Source],
-    /// The fields in which it keeps cancel functions, which its verdict tells of.
-    pub keeping: Vec<&'a str>,
-    pub diagnostics: Vec<ExplainedDiagnostic<'a>>,
-}
-
-impl ExplainedPackage<'_> {
-    /// Whether the package is `yes`: there is nothing to say of it.
-    pub fn is_yes(&self) -> bool
-        ensures { IsTrue result ↔ (self.now.diagnostics.items ≡ []) }
-    {
-        self.diagnostics.is_empty()
-    }
-}
+use lexer::Place;
+use report::{Note, NoteText, Wording, first_byte, moved};
 
 /// The text of a note in five parts, of which some may be empty.
-pub fn text_parts<'a>(text: NoteText<'a>) -> (&'a str, &'a str, &'a str, &'a str, &'a str)
+pub fn text_parts<'a>(
+    wording: Wording,
+    text: NoteText<'a>,
+) -> (&'a str, &'a str, &'a str, &'a str, &'a str)
     ensures { result.0.now ++ (result.1.now ++ (result.2.now ++ (result.3.now ++ result.4.now)))
-        ≡ note_text text.entry }
+        ≡ note_words wording text.entry }
 {
     match text {
         NoteText::Words(words) => (words, "", "", "", ""),
         NoteText::Named(before, name, after) => (before, name, after, "", ""),
-        NoteText::Finding(code, name) => (code.number(), " ", name, " ", code.text()),
+        NoteText::Finding(code, name) => (code.number(), " ", name, " ", code.words(wording)),
     }
 }
 

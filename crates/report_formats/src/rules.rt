@@ -3,12 +3,13 @@
 ghost use Rattle.std.specs.Prelude.{◌≡◌, Some, option_map, slice_get};
 ghost use Rattle.report.specs.Codes.{code_number};
 ghost use Rattle.report.specs.declared.codes.DiagnosticCode.{DiagnosticCode as Code};
+ghost use Rattle.report.specs.declared.codes.Wording.TheVariants.{Second};
 ghost use Rattle.report_formats.specs.SarifCodes.{rule_codes, rule_index, rule_text, level, tells_way};
 
-use report::{DiagnosticCode, TextFault, TreeFault};
+use report::{DiagnosticCode, TextFault, TreeFault, Wording};
 
-/// A code for each rule, in the order of their numbers.
-static RULE_CODES: [DiagnosticCode; 16] = [
+/// A code for each rule, in the order of their numbers. By the first edition of the rules no line accepts anything.
+static FIRST_CODES: [DiagnosticCode; 16] = [
     DiagnosticCode::Unreadable(TextFault::NotUtf8),
     DiagnosticCode::LeftOut(TreeFault::UnexpectedToken),
     DiagnosticCode::Discarded,
@@ -27,11 +28,34 @@ static RULE_CODES: [DiagnosticCode; 16] = [
     DiagnosticCode::NoCertificate,
 ];
 
+static SECOND_CODES: [DiagnosticCode; 17] = [
+    DiagnosticCode::Unreadable(TextFault::NotUtf8),
+    DiagnosticCode::LeftOut(TreeFault::UnexpectedToken),
+    DiagnosticCode::Discarded,
+    DiagnosticCode::Overwritten,
+    DiagnosticCode::NotCalled,
+    DiagnosticCode::CancelMisused,
+    DiagnosticCode::GroupIsLive,
+    DiagnosticCode::GroupOverwritten,
+    DiagnosticCode::GroupMisused,
+    DiagnosticCode::LeftToLiveGroup,
+    DiagnosticCode::BoundAgain,
+    DiagnosticCode::TooMany,
+    DiagnosticCode::ImportIsNotYes,
+    DiagnosticCode::ImportHasNoRank,
+    DiagnosticCode::TwoFunctions,
+    DiagnosticCode::NoCertificate,
+    DiagnosticCode::AcceptsNothing,
+];
+
 /// The codes of the rules.
-pub fn rule_codes() -> &'static [DiagnosticCode]
-    ensures { result.now ≡ rule_codes }
+pub fn rule_codes(wording: Wording) -> &'static [DiagnosticCode]
+    ensures { result.now ≡ rule_codes wording }
 {
-    &RULE_CODES
+    match wording {
+        Wording::First => &FIRST_CODES,
+        Wording::Second => &SECOND_CODES,
+    }
 }
 
 /// The place of a code's rule among the rules, from 0.
@@ -55,17 +79,18 @@ pub fn rule_index(code: DiagnosticCode) -> usize
         DiagnosticCode::ImportHasNoRank => 13,
         DiagnosticCode::TwoFunctions => 14,
         DiagnosticCode::NoCertificate => 15,
+        DiagnosticCode::AcceptsNothing => 16,
     }
 }
 
 /// What the rule of a code says.
-pub fn rule_text(code: DiagnosticCode) -> &'static str
-    ensures { result.now ≡ rule_text code }
+pub fn rule_text(wording: Wording, code: DiagnosticCode) -> &'static str
+    ensures { result.now ≡ rule_text wording code }
 {
     match code {
         DiagnosticCode::Unreadable(_) => "file has no tokens",
         DiagnosticCode::LeftOut(_) => "no tree, or a form that is left out",
-        code => code.text(),
+        code => code.words(wording),
     }
 }
 
@@ -98,8 +123,8 @@ pub fn tells_way(code: DiagnosticCode) -> bool
     )
 }
 
-/// The rule at the place of a code's rule has the code's number.
+/// The rule at the place of a code's rule has the code's number, where the report has that code.
 pub fn each_code_has_its_rule()
     ensures { (code : Code)
-        → option_map code_number (slice_get rule_codes (rule_index code)) ≡ Some (code_number code) }
+        → option_map code_number (slice_get (rule_codes Second) (rule_index code)) ≡ Some (code_number code) }
 {}

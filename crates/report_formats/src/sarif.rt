@@ -1,38 +1,46 @@
 //! A report in SARIF 2.1.0.
 
-ghost use Rattle.std.specs.Prelude.{◌≡◌, ◌++◌, false, slice_get, map, flat_map};
-ghost use Rattle.serde_json.specs.Written.{comma_if, compact_text};
+ghost use Rattle.std.specs.Prelude.{◌≡◌, ◌++◌, false, true, flat_map, map, option_map, slice_get};
+ghost use Rattle.accepting.specs.Findings.{accepted_view, finding_view, found_view};
+ghost use Rattle.report.specs.Entries.{entry_of};
 ghost use Rattle.report.specs.Writing.{refusals_after, IsWritten};
 ghost use Rattle.report_formats.specs.FileUris.{is_absolute, uri_scheme};
-ghost use Rattle.report_formats.specs.SarifText.{location_members, name_before, package_results, result_members, result_value, rule_value, sarif_text};
-ghost use Rattle.report_formats.specs.Pieces.{base_text, listed, opened, log_front, after_results, IsPlaceOf};
+ghost use Rattle.report_formats.specs.Objects.{members_of};
+ghost use Rattle.report_formats.specs.Pieces.{after_results, base_text, IsPlaceOf, listed, log_front, members_listed, note_end, note_front, notes_end, notes_front, opened};
+ghost use Rattle.report_formats.specs.SarifText.{kind_text, location_members, name_before, note_members, package_results, result_members, result_value, rule_value, sarif_text, suppression_members, told_note};
+ghost use Rattle.serde_json.specs.Written.{comma_if, compact_text, members_text};
 
 use crate::columns::moved_in_code_points;
+use crate::notes::text_parts;
 use crate::pieces::FormatPiece::{Number, Plain, Spelled};
 use crate::pieces::{comma, name_of, put_each};
-use crate::rules::{level, rule_codes, rule_index, rule_text};
+use crate::rules::{level, rule_codes, rule_index, rule_text, tells_way};
 use crate::strings::Spelling::{InString, InUri};
+use crate::strings::put_spelled;
+use crate::style::{Style, notes_told, reason_text};
+use accepting::{Acceptance, Finding, FoundPackage};
 use lexer::{Place, Source};
-use report::{Diagnostic, DiagnosticCode, PackageReport, Sink, WriteFault, first_byte, put_all};
+use report::{Diagnostic, DiagnosticCode, Note, Sink, Wording, WriteFault, first_byte, put_all};
 
-/// Writes the report as a SARIF log of one run and a newline. Where the diagnostics are in their order, this reads each
+/// Writes the report as a SARIF log of one run and a newline. Where the findings are in their order, this reads each
 /// source but once.
-///
-/// # Errors
-///
-/// A put failed or took nothing. A beginning of the text is taken then, and not all of it.
-pub fn write_sarif<S: Sink>(reports: &[PackageReport], sink: &mut S) -> Result<(), WriteFault>
-    ensures taken { IsWritten (sarif_text reports.now) (S.taken sink.old) (S.taken sink.new) result }
+pub fn write_sarif<S: Sink>(
+    style: Style,
+    packages: &[FoundPackage],
+    sink: &mut S,
+) -> Result<(), WriteFault>
+    ensures taken { IsWritten (sarif_text style (map found_view packages.now))
+        (S.taken sink.old) (S.taken sink.new) result }
     ensures refusals { S.refusals sink.new ≡ refusals_after (S.refusals sink.old) result }
 {
-    open_log(sink)?;
-    write_results(reports, sink)?;
+    open_log(style.wording, sink)?;
+    write_results(style, packages, sink)?;
     put_all(b"]}]}\n", sink)
 }
 
 /// Writes what a log says before its results.
-pub fn open_log<S: Sink>(sink: &mut S) -> Result<(), WriteFault>
-    ensures taken { IsWritten log_front (S.taken sink.old) (S.taken sink.new) result }
+fn open_log<S: Sink>(wording: Wording, sink: &mut S) -> Result<(), WriteFault>
+    ensures taken { IsWritten (log_front wording) (S.taken sink.old) (S.taken sink.new) result }
     ensures refusals { S.refusals sink.new ≡ refusals_after (S.refusals sink.old) result }
 {
     put_all(
@@ -40,28 +48,37 @@ pub fn open_log<S: Sink>(sink: &mut S) -> Result<(), WriteFault>
         \"runs\":[{\"tool\":{\"driver\":{\"name\":\"ctxvet\",\"rules\":[",
         sink,
     )?;
-    write_rules(rule_codes(), sink)?;
+    write_rules(wording, rule_codes(wording), sink)?;
     put_all(
         b"]}},\"columnKind\":\"unicodeCodePoints\",\"results\":[",
         sink,
     )
 }
 
-fn write_rules<S: Sink>(codes: &[DiagnosticCode], sink: &mut S) -> Result<(), WriteFault>
-    ensures taken { IsWritten (listed false (map rule_value codes.now))
+fn write_rules<S: Sink>(
+    wording: Wording,
+    codes: &[DiagnosticCode],
+    sink: &mut S,
+) -> Result<(), WriteFault>
+    ensures taken { IsWritten (listed false (map (rule_value wording) codes.now))
         (S.taken sink.old) (S.taken sink.new) result }
     ensures refusals { S.refusals sink.new ≡ refusals_after (S.refusals sink.old) result }
 {
     let mut is_later = false;
     for code in codes {
-        write_rule(*code, is_later, sink)?;
+        write_rule(wording, *code, is_later, sink)?;
         is_later = true;
     }
     Ok(())
 }
 
-fn write_rule<S: Sink>(code: DiagnosticCode, is_later: bool, sink: &mut S) -> Result<(), WriteFault>
-    ensures taken { IsWritten (comma_if is_later ++ compact_text (rule_value code))
+fn write_rule<S: Sink>(
+    wording: Wording,
+    code: DiagnosticCode,
+    is_later: bool,
+    sink: &mut S,
+) -> Result<(), WriteFault>
+    ensures taken { IsWritten (comma_if is_later ++ compact_text (rule_value wording code))
         (S.taken sink.old) (S.taken sink.new) result }
     ensures refusals { S.refusals sink.new ≡ refusals_after (S.refusals sink.old) result }
 {
@@ -71,57 +88,94 @@ fn write_rule<S: Sink>(code: DiagnosticCode, is_later: bool, sink: &mut S) -> Re
             Plain("{\"id\":\""),
             Spelled(InString, code.number()),
             Plain("\",\"shortDescription\":{\"text\":\""),
-            Spelled(InString, rule_text(code)),
+            Spelled(InString, rule_text(wording, code)),
             Plain("\"}}"),
         ],
         sink,
     )
 }
 
-fn write_results<S: Sink>(reports: &[PackageReport], sink: &mut S) -> Result<(), WriteFault>
-    ensures taken { IsWritten (listed false (flat_map package_results reports.now))
+fn write_results<S: Sink>(
+    style: Style,
+    packages: &[FoundPackage],
+    sink: &mut S,
+) -> Result<(), WriteFault>
+    ensures taken { IsWritten (listed false (flat_map (λ p. package_results style (found_view p)) packages.now))
         (S.taken sink.old) (S.taken sink.new) result }
     ensures refusals { S.refusals sink.new ≡ refusals_after (S.refusals sink.old) result }
 {
     let mut is_later = false;
-    for report in reports {
-        write_package_results(report.sources, &report.diagnostics, is_later, sink)?;
-        is_later = comes_later(is_later, report);
+    for package in packages {
+        write_package_results(style, package.sources, &package.findings, is_later, sink)?;
+        is_later = comes_later(is_later, package);
     }
     Ok(())
 }
 
 /// Whether results stand before what follows a package.
-fn comes_later(is_later: bool, report: &PackageReport) -> bool
-    ensures { result ≡ after_results is_later report.now.diagnostics.items }
+fn comes_later(is_later: bool, found: &FoundPackage) -> bool
+    ensures { result ≡ after_results is_later found.now.findings.items }
 {
-    if report.is_yes() { is_later } else { true }
+    if found.findings.is_empty() {
+        is_later
+    } else {
+        true
+    }
 }
 
 /// Writes the results of a package; whether others stand before them is told.
 fn write_package_results<S: Sink>(
+    style: Style,
     sources: &[Source],
-    diagnostics: &[Diagnostic],
+    findings: &[Finding],
     others_before: bool,
     sink: &mut S,
 ) -> Result<(), WriteFault>
-    ensures taken { IsWritten (listed others_before (map (result_value sources.now) diagnostics.now))
+    ensures taken { IsWritten
+        (listed others_before (map (λ f. result_value style sources.now (finding_view f)) findings.now))
         (S.taken sink.old) (S.taken sink.new) result }
     ensures refusals { S.refusals sink.new ≡ refusals_after (S.refusals sink.old) result }
 {
     let mut cursor = first_byte(0);
     let mut is_later = others_before;
-    for diagnostic in diagnostics {
+    for finding in findings {
+        let diagnostic = &finding.diagnostic;
         cursor = moved_in_code_points(cursor, sources, diagnostic.file, diagnostic.offset as usize);
-        open_result(sources, diagnostic, cursor.place, is_later, sink)?;
-        put_all(b"}", sink)?;
+        write_result(style, sources, finding, cursor.place, is_later, sink)?;
         is_later = true;
     }
     Ok(())
 }
 
+/// Writes a result, which stands at this place. Its column counts code points.
+fn write_result<'a, S: Sink>(
+    style: Style,
+    sources: &'a [Source],
+    finding: &'a Finding<'a>,
+    place: Place,
+    is_later: bool,
+    sink: &mut S,
+) -> Result<(), WriteFault>
+    requires { IsPlaceOf (slice_get sources.now finding.now.diagnostic.file) finding.now.diagnostic.offset place }
+    ensures taken { IsWritten
+        (comma_if is_later ++ compact_text (result_value style sources.now (finding_view finding.now)))
+        (S.taken sink.old) (S.taken sink.new) result }
+    ensures refusals { S.refusals sink.new ≡ refusals_after (S.refusals sink.old) result }
+{
+    let diagnostic = &finding.diagnostic;
+    open_result(style.wording, sources, diagnostic, place, is_later, sink)?;
+    write_suppression(finding.acceptance, sink)?;
+    close_result(
+        style.wording,
+        diagnostic.code,
+        notes_told(style, finding),
+        sink,
+    )
+}
+
 /// Writes what is said of a result, which stands at this place. Its column counts code points.
-pub fn open_result<'a, S: Sink>(
+fn open_result<'a, S: Sink>(
+    wording: Wording,
     sources: &'a [Source],
     diagnostic: &'a Diagnostic<'a>,
     place: Place,
@@ -130,7 +184,7 @@ pub fn open_result<'a, S: Sink>(
 ) -> Result<(), WriteFault>
     requires { IsPlaceOf (slice_get sources.now diagnostic.now.file) diagnostic.now.offset place }
     ensures taken { IsWritten
-        (opened is_later (result_members (slice_get sources.now diagnostic.now.file) diagnostic.now))
+        (opened is_later (result_members wording (slice_get sources.now diagnostic.now.file) (entry_of diagnostic.now)))
         (S.taken sink.old) (S.taken sink.new) result }
     ensures refusals { S.refusals sink.new ≡ refusals_after (S.refusals sink.old) result }
 {
@@ -148,7 +202,7 @@ pub fn open_result<'a, S: Sink>(
             Plain("\",\"message\":{\"text\":\""),
             Spelled(InString, name),
             Spelled(InString, space),
-            Spelled(InString, code.text()),
+            Spelled(InString, code.words(wording)),
             Plain("\"},\"locations\":["),
         ],
         sink,
@@ -158,7 +212,7 @@ pub fn open_result<'a, S: Sink>(
 }
 
 /// Writes where something stands: a file, by its name, and a place in it, whose column counts code points.
-pub fn open_location<S: Sink>(file: &str, place: Place, sink: &mut S) -> Result<(), WriteFault>
+fn open_location<S: Sink>(file: &str, place: Place, sink: &mut S) -> Result<(), WriteFault>
     ensures taken { IsWritten (opened false (location_members file.now place.line place.column))
         (S.taken sink.old) (S.taken sink.new) result }
     ensures refusals { S.refusals sink.new ≡ refusals_after (S.refusals sink.old) result }
@@ -180,7 +234,7 @@ pub fn open_location<S: Sink>(file: &str, place: Place, sink: &mut S) -> Result<
 }
 
 /// The name in a message and the space behind it; neither is there where the diagnostic speaks of none.
-fn name_parts(name: &str) -> (&str, &'static str)
+pub fn name_parts(name: &str) -> (&str, &'static str)
     ensures { result.0.now ++ result.1.now ≡ name_before name.now }
 {
     if name == "-" { ("", "") } else { (name, " ") }
@@ -208,4 +262,135 @@ fn is_absolute(name: &str) -> bool
     ensures { result ≡ is_absolute name.now }
 {
     matches!(name.as_bytes(), [b'/', ..])
+}
+
+/// Writes by what a finding is accepted, if it is.
+fn write_suppression<'a, S: Sink>(
+    acceptance: Option<Acceptance<'a>>,
+    sink: &mut S,
+) -> Result<(), WriteFault>
+    ensures taken { IsWritten (members_listed true (suppression_members (option_map accepted_view acceptance.entry)))
+        (S.taken sink.old) (S.taken sink.new) result }
+    ensures refusals { S.refusals sink.new ≡ refusals_after (S.refusals sink.old) result }
+{
+    let Some(by) = acceptance else {
+        return Ok(());
+    };
+    put_each(
+        &[
+            Plain(",\"suppressions\":[{\"kind\":\""),
+            Plain(kind_of(by)),
+            Plain("\",\"justification\":\""),
+        ],
+        sink,
+    )?;
+    put_spelled(InString, reason_text(by), sink)?;
+    put_all(b"\"}]", sink)
+}
+
+/// Where a finding is accepted: in its source, or elsewhere.
+fn kind_of(acceptance: Acceptance<'_>) -> &'static str
+    ensures { result.now ≡ kind_text (accepted_view acceptance.entry) }
+{
+    match acceptance {
+        Acceptance::ByLine(_) => "inSource",
+        Acceptance::ByBaseline => "external",
+    }
+}
+
+/// Writes the notes of a result with this code, and its end.
+fn close_result<S: Sink>(
+    wording: Wording,
+    code: DiagnosticCode,
+    notes: &[Note],
+    sink: &mut S,
+) -> Result<(), WriteFault>
+    ensures taken { IsWritten (members_text true (members_of (note_members wording code notes.now)))
+        (S.taken sink.old) (S.taken sink.new) result }
+    ensures refusals { S.refusals sink.new ≡ refusals_after (S.refusals sink.old) result }
+{
+    if notes.is_empty() {
+        return put_all(b"}", sink);
+    }
+    let are_steps = tells_way(code);
+    let (front, end) = around_notes(are_steps);
+    put_each(&[Plain(front)], sink)?;
+    write_notes(wording, notes, are_steps, sink)?;
+    put_each(&[Plain(end)], sink)
+}
+
+fn write_notes<S: Sink>(
+    wording: Wording,
+    notes: &[Note],
+    are_steps: bool,
+    sink: &mut S,
+) -> Result<(), WriteFault>
+    ensures taken { IsWritten (listed false (map (told_note wording are_steps) notes.now))
+        (S.taken sink.old) (S.taken sink.new) result }
+    ensures refusals { S.refusals sink.new ≡ refusals_after (S.refusals sink.old) result }
+{
+    let mut is_later = false;
+    for note in notes {
+        write_note(wording, note, are_steps, is_later, sink)?;
+        is_later = true;
+    }
+    Ok(())
+}
+
+/// Writes a note, which may be a step of a way. Its column counts code points.
+fn write_note<'a, S: Sink>(
+    wording: Wording,
+    note: &'a Note<'a>,
+    is_step: bool,
+    is_later: bool,
+    sink: &mut S,
+) -> Result<(), WriteFault>
+    ensures taken { IsWritten (comma_if is_later ++ compact_text (told_note wording is_step note.now))
+        (S.taken sink.old) (S.taken sink.new) result }
+    ensures refusals { S.refusals sink.new ≡ refusals_after (S.refusals sink.old) result }
+{
+    let (first, second, third, fourth, fifth) = text_parts(wording, note.text);
+    let (front, end) = around_note(is_step);
+    let offset = note.offset as usize;
+    let cursor = moved_in_code_points(first_byte(note.file), note.sources, note.file, offset);
+    put_each(&[Plain(comma(is_later)), Plain(front)], sink)?;
+    open_location(name_of(note.sources, note.file), cursor.place, sink)?;
+    put_each(
+        &[
+            Plain(",\"message\":{\"text\":\""),
+            Spelled(InString, first),
+            Spelled(InString, second),
+            Spelled(InString, third),
+            Spelled(InString, fourth),
+            Spelled(InString, fifth),
+            Plain("\"}}"),
+            Plain(end),
+        ],
+        sink,
+    )
+}
+
+/// What stands before the notes of a result, and behind them up to the end of the result.
+fn around_notes(are_steps: bool) -> (&'static str, &'static str)
+    ensures { (result.0.now ≡ notes_front are_steps) × (result.1.now ≡ notes_end are_steps) }
+{
+    if are_steps {
+        (
+            ",\"codeFlows\":[{\"threadFlows\":[{\"locations\":[",
+            "]}]}]}",
+        )
+    } else {
+        (",\"relatedLocations\":[", "]}")
+    }
+}
+
+/// What stands before the place of a note, and behind what it says.
+fn around_note(is_step: bool) -> (&'static str, &'static str)
+    ensures { (result.0.now ≡ note_front is_step) × (result.1.now ≡ note_end is_step) }
+{
+    if is_step {
+        ("{\"location\":", "}")
+    } else {
+        ("", "")
+    }
 }

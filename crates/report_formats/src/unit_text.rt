@@ -1,130 +1,111 @@
 //! The text of a unit's report.
 
-ghost use Rattle.std.specs.Prelude.{◌≡◌, slice_get, flat_map};
+ghost use Rattle.std.specs.Prelude.{◌≡◌, flat_map, slice_get};
+ghost use Rattle.accepting.specs.Findings.{finding_view, found_view};
 ghost use Rattle.lexer.specs.Place.{line_of, column_of};
 ghost use Rattle.report.specs.ReportText.{bytes_of};
 ghost use Rattle.report.specs.Writing.{refusals_after, IsWritten};
-ghost use Rattle.report_formats.specs.UnitText.{explained_unit_lines, explained_unit_text, is_near, lines_around, lines_of, shown_from, shown_if, shown_line, unit_lines, unit_text};
+ghost use Rattle.report_formats.specs.UnitText.{is_near, lines_around, lines_of, shown_from, shown_if, shown_line, unit_lines, unit_text, unit_told};
 
-use crate::explained_text::{write_line, write_notes};
-use crate::notes::{ExplainedDiagnostic, ExplainedPackage};
+use crate::report_lines::{write_line, write_notes};
+use crate::style::{Style, is_told};
+use accepting::{Finding, FoundPackage};
 use lexer::{Place, Source};
 use memchr::memchr;
 use report::TextPiece::{Number, Text};
-use report::{Diagnostic, PackageReport, Sink, WriteFault, first_byte, moved, put_all, put_pieces};
+use report::{Sink, WriteFault, first_byte, moved, put_all, put_pieces};
 
-/// Writes a line for each diagnostic of the unit, `FILE:LINE:COLUMN: CODE NAME TEXT`, and nothing of a verdict. Where
-/// lines are asked for, so many lines of the file above and below its place stand below it, and the line of that place,
-/// each behind its number and a tab; for each diagnostic its file is read anew then.
+/// Writes a line for each finding of the unit that is told, `FILE:LINE:COLUMN: CODE NAME TEXT`, and below it lines of
+/// its notes, and nothing of a verdict. Where lines are asked for, so many lines of the file above and below its place
+/// stand before the notes, and the line of that place, each behind its number and a tab; for each finding its file is
+/// read anew then.
 ///
 /// # Errors
 ///
 /// A put failed or took nothing. A beginning of the text is taken then, and not all of it.
 pub fn write_unit_text<S: Sink>(
-    report: &PackageReport,
+    style: Style,
+    unit: &FoundPackage,
     around: Option<usize>,
     sink: &mut S,
 ) -> Result<(), WriteFault>
-    ensures taken { IsWritten (unit_text around report.now) (S.taken sink.old) (S.taken sink.new) result }
+    ensures taken { IsWritten (unit_text style around (found_view unit.now))
+        (S.taken sink.old) (S.taken sink.new) result }
     ensures refusals { S.refusals sink.new ≡ refusals_after (S.refusals sink.old) result }
 {
-    write_all(report.sources, &report.diagnostics, around, sink)
+    write_all(style, unit.sources, &unit.findings, around, sink)
 }
 
-/// Writes the lines of these diagnostics.
+/// Writes the lines of these findings.
 fn write_all<S: Sink>(
+    style: Style,
     sources: &[Source],
-    diagnostics: &[Diagnostic],
+    findings: &[Finding],
     around: Option<usize>,
     sink: &mut S,
 ) -> Result<(), WriteFault>
-    ensures taken { IsWritten (flat_map (unit_lines around sources.now) diagnostics.now)
+    ensures taken { IsWritten (flat_map (λ f. unit_told style around sources.now (finding_view f)) findings.now)
         (S.taken sink.old) (S.taken sink.new) result }
     ensures refusals { S.refusals sink.new ≡ refusals_after (S.refusals sink.old) result }
 {
     let mut cursor = first_byte(0);
-    for diagnostic in diagnostics {
+    for finding in findings {
+        let diagnostic = &finding.diagnostic;
         cursor = moved(cursor, sources, diagnostic.file, diagnostic.offset as usize);
-        write_lines(sources, diagnostic, cursor.place, around, sink)?;
+        write_told(style, sources, finding, cursor.place, around, sink)?;
     }
     Ok(())
 }
 
-/// The same with the notes of each diagnostic below these lines.
-///
-/// # Errors
-///
-/// A put failed or took nothing. A beginning of the text is taken then, and not all of it.
-pub fn write_explained_unit<S: Sink>(
-    told: &ExplainedPackage,
-    around: Option<usize>,
-    sink: &mut S,
-) -> Result<(), WriteFault>
-    ensures taken { IsWritten (explained_unit_text around told.now)
-        (S.taken sink.old) (S.taken sink.new) result }
-    ensures refusals { S.refusals sink.new ≡ refusals_after (S.refusals sink.old) result }
-{
-    write_all_explained(told.sources, &told.diagnostics, around, sink)
-}
-
-/// Writes the lines of these diagnostics, and their notes.
-fn write_all_explained<S: Sink>(
-    sources: &[Source],
-    diagnostics: &[ExplainedDiagnostic],
-    around: Option<usize>,
-    sink: &mut S,
-) -> Result<(), WriteFault>
-    ensures taken { IsWritten (flat_map (explained_unit_lines around sources.now) diagnostics.now)
-        (S.taken sink.old) (S.taken sink.new) result }
-    ensures refusals { S.refusals sink.new ≡ refusals_after (S.refusals sink.old) result }
-{
-    let mut cursor = first_byte(0);
-    for explained in diagnostics {
-        let diagnostic = &explained.diagnostic;
-        cursor = moved(cursor, sources, diagnostic.file, diagnostic.offset as usize);
-        write_explained_lines(sources, explained, cursor.place, around, sink)?;
-    }
-    Ok(())
-}
-
-/// Writes the lines of a diagnostic, which stands at this place, and its notes.
-fn write_explained_lines<'a, S: Sink>(
+/// Writes the lines of a finding, which stands at this place, if it is told.
+fn write_told<'a, S: Sink>(
+    style: Style,
     sources: &'a [Source],
-    explained: &'a ExplainedDiagnostic<'a>,
+    finding: &'a Finding<'a>,
     place: Place,
     around: Option<usize>,
     sink: &mut S,
 ) -> Result<(), WriteFault>
     requires line { place.line
-        ≡ line_of (bytes_of (slice_get sources.now explained.now.diagnostic.file)) explained.now.diagnostic.offset }
+        ≡ line_of (bytes_of (slice_get sources.now finding.now.diagnostic.file)) finding.now.diagnostic.offset }
     requires column { place.column
-        ≡ column_of (bytes_of (slice_get sources.now explained.now.diagnostic.file)) explained.now.diagnostic.offset }
-    ensures taken { IsWritten (explained_unit_lines around sources.now explained.now)
+        ≡ column_of (bytes_of (slice_get sources.now finding.now.diagnostic.file)) finding.now.diagnostic.offset }
+    ensures taken { IsWritten (unit_told style around sources.now (finding_view finding.now))
         (S.taken sink.old) (S.taken sink.new) result }
     ensures refusals { S.refusals sink.new ≡ refusals_after (S.refusals sink.old) result }
 {
-    write_lines(sources, &explained.diagnostic, place, around, sink)?;
-    write_notes(&explained.notes, sink)
+    if is_told(style, finding) {
+        write_lines(style, sources, finding, place, around, sink)
+    } else {
+        Ok(())
+    }
 }
 
-/// Writes the line of a diagnostic, which stands at this place, and the lines around it.
+/// Writes the line of a finding, which stands at this place, the lines around it, and its notes.
 fn write_lines<'a, S: Sink>(
+    style: Style,
     sources: &'a [Source],
-    diagnostic: &'a Diagnostic<'a>,
+    finding: &'a Finding<'a>,
     place: Place,
     around: Option<usize>,
     sink: &mut S,
 ) -> Result<(), WriteFault>
     requires line { place.line
-        ≡ line_of (bytes_of (slice_get sources.now diagnostic.now.file)) diagnostic.now.offset }
+        ≡ line_of (bytes_of (slice_get sources.now finding.now.diagnostic.file)) finding.now.diagnostic.offset }
     requires column { place.column
-        ≡ column_of (bytes_of (slice_get sources.now diagnostic.now.file)) diagnostic.now.offset }
-    ensures taken { IsWritten (unit_lines around sources.now diagnostic.now)
+        ≡ column_of (bytes_of (slice_get sources.now finding.now.diagnostic.file)) finding.now.diagnostic.offset }
+    ensures taken { IsWritten (unit_lines style around sources.now (finding_view finding.now))
         (S.taken sink.old) (S.taken sink.new) result }
     ensures refusals { S.refusals sink.new ≡ refusals_after (S.refusals sink.old) result }
 {
-    write_line(sources, diagnostic, place, sink)?;
-    write_around(bytes_of(sources, diagnostic.file), place.line, around, sink)
+    write_line(style.wording, sources, finding, place, sink)?;
+    write_around(
+        bytes_of(sources, finding.diagnostic.file),
+        place.line,
+        around,
+        sink,
+    )?;
+    write_notes(style.wording, &finding.notes, sink)
 }
 
 /// The bytes of a source; none where it is not there.

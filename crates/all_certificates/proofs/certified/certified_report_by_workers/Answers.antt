@@ -1,6 +1,6 @@
 use Rattle.std.proofs.Common.{◌∙◌, subst}
 use Rattle.all_certificates.proofs.AllCertified.{all_certified}
-use Rattle.all_packages.specs.Reports.{AreTold}
+use Rattle.told_reports.specs.Reports.{AreTold}
 use Rattle.certificate_json.specs.Certificates.{packages_of}
 use Rattle.declared_tables.specs.DeclaredTables.{declared_tables}
 use Rattle.declared_json.specs.DeclaredPackages.{packages_of as declared_of}
@@ -15,7 +15,7 @@ returns-clause-certified g c =
         said = judged;
         are_reports = c.in_ok-judged.ensures.reports;
         told =
-            subst (λ reports. AreTold c.args.settings.format reports c.in_ok-report.report)
+            subst (λ reports. AreTold c.args.settings.telling reports c.in_ok-report.report)
             (c.deref.ensures.value ∙ c.in_ok-reports.ensures.reports) c.in_ok-report.ensures;
       };
       are_certificates = λ ps tell distinct.

@@ -43,10 +43,13 @@ returns-then-ends_options g c =
     record {
       files = sym (append-nil (texts_of kept.files.items)) ∙ so.files;
       facts = sym (append-nil (texts_of kept.facts.items)) ∙ so.facts;
+      baselines = sym (append-nil (texts_of kept.baselines.items)) ∙ so.baselines;
       lists = sym (append-nil (texts_of kept.lists.items)) ∙ so.lists;
       formats = sym (append-nil (texts_of kept.formats.items)) ∙ so.formats;
       editions = sym (append-nil (texts_of kept.editions.items)) ∙ so.editions;
       numbers = sym (append-nil (texts_of kept.numbers.items)) ∙ so.numbers;
       whys = sym (append-nil (texts_of kept.whys.items)) ∙ so.whys;
+      accepted = sym (append-nil (texts_of kept.accepted.items)) ∙ so.accepted;
+      quiet = sym (append-nil (texts_of kept.quiet.items)) ∙ so.quiet;
       packages = added ∙ so.packages;
     }

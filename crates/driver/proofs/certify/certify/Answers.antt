@@ -1,4 +1,4 @@
-use Rattle.std.proofs.Common.{◌≡◌, false, true≢false, IsErrAnd, refl, rules, string_bytes, subst, sym}
+use Rattle.std.proofs.Common.{◌≡◌, false, true≢false, IsErrAnd, refl, rules, string_bytes, subst, sym, true}
 use Rattle.std.specs.Io.KnownBytes.{Appends}
 use Rattle.folders.specs.declared.fault.Fault.TheVariants.{CannotWrite}
 use Rattle.judge.specs.Certified.{IsCertifiedReport}
@@ -6,8 +6,10 @@ use Rattle.declared_json.specs.DeclaredPackages.{packages_of}
 use Rattle.workers.specs.Counts.{count_of}
 use Rattle.unit_reading.proofs.HandedOn.{handed_on}
 use Rattle.driver.specs.Faults.{is_of_output, IsCertifyFault}
+use Rattle.driver.specs.Packages.{edition_of_run}
 use Rattle.driver.specs.Printing.{AppendsFront}
 use Rattle.driver.proofs.FaultsOfCommands.{none_refused, of_check}
+use Rattle.driver.proofs.ToldSo.{told_so}
 use Rattle.driver.proofs.ReadGiven.{of_report, on_err, read_words}
 use Rattle.driver.proofs.certify.certify.Goals as goal
 
@@ -53,8 +55,12 @@ returns-in_err-print-clause-begun g c =
         outside = input.outside;
         are_read = c.in_ok-input.ensures.read;
         report = told.report;
+        telling = c.telling_of.result;
+        is_telling =
+            told_so c.edition_of_run.result (edition_of_run c.args.asked.now.sources) c.args.asked.now.report true _ _ _
+            c.edition_of_run.ensures c.deref.ensures.value c.telling_of.ensures;
         is_report = c.in_ok-told.ensures.report;
-        so = subst (AppendsFront old new) c.deref.ensures.value c.in_err-print.ensures.begun;
+        so = subst (AppendsFront old new) c.deref-2.ensures.value c.in_err-print.ensures.begun;
       },
     ))
 
@@ -76,7 +82,7 @@ returns-in_err-file-2-clause-whole g c =
     let new = g.W.Write.contents c.print.new.out in
     on_err c.from_residual-in_err-file-2.result
     (λ fault name e. (
-      told.report.yes,
+      told.report.passes,
       input.files,
       string_bytes told.certificates,
       record {
@@ -84,31 +90,38 @@ returns-in_err-file-2-clause-whole g c =
         outside = input.outside;
         are_read = c.in_ok-input.ensures.read;
         report = told.report;
+        telling = c.telling_of.result;
+        is_telling =
+            told_so c.edition_of_run.result (edition_of_run c.args.asked.now.sources) c.args.asked.now.report true _ _ _
+            c.edition_of_run.ensures c.deref.ensures.value c.telling_of.ensures;
         is_report = c.in_ok-told.ensures.report;
-        so = (refl, subst (Appends old new) c.deref.ensures.value c.in_ok-print.ensures.written);
+        so = (refl, subst (Appends old new) c.deref-2.ensures.value c.in_ok-print.ensures.written);
       },
     ))
 
 pub returns-clause-written : goal.returns-clause-written
 returns-clause-written g c =
-    let format = c.args.asked.now.format in
     let input = c.in_ok-input.input in
     let given = input.given.items in
     let told = c.in_ok-told.told in
     let old = g.W.Write.contents c.args.out.now in
     let new = g.W.Write.contents c.print.new.out in
     let is_text = c.in_ok-file-2.ensures.written.is_text in (
-      told.report.yes,
+      told.report.passes,
       c.of_verdict-status.ensures,
       record {
         given = given;
         outside = input.outside;
         are_read = c.in_ok-input.ensures.read;
         report = told.report;
+        telling = c.telling_of.result;
+        is_telling =
+            told_so c.edition_of_run.result (edition_of_run c.args.asked.now.sources) c.args.asked.now.report true _ _ _
+            c.edition_of_run.ensures c.deref.ensures.value c.telling_of.ensures;
         is_report =
-            subst (λ text. IsCertifiedReport format (packages_of input.outside) given told.report (string_bytes text))
+            subst (λ text. IsCertifiedReport c.telling_of.result (packages_of input.outside) given told.report (string_bytes text))
             (sym is_text) c.in_ok-told.ensures.report;
-        so = (refl, subst (Appends old new) c.deref.ensures.value c.in_ok-print.ensures.written);
+        so = (refl, subst (Appends old new) c.deref-2.ensures.value c.in_ok-print.ensures.written);
       },
     )
 

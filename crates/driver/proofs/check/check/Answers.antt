@@ -1,11 +1,13 @@
-use Rattle.std.proofs.Common.{◌≡◌, false, true≢false, IsErrAnd, refl, rules, subst}
+use Rattle.std.proofs.Common.{◌≡◌, false, true≢false, IsErrAnd, refl, rules, subst, true}
 use Rattle.std.specs.Io.KnownBytes.{Appends}
 use Rattle.folders.specs.declared.fault.Fault.TheVariants.{CannotWrite}
 use Rattle.workers.specs.Counts.{count_of}
 use Rattle.unit_reading.proofs.HandedOn.{handed_on}
 use Rattle.driver.specs.Faults.{is_of_output, IsCheckFault}
+use Rattle.driver.specs.Packages.{edition_of_run}
 use Rattle.driver.specs.Printing.{AppendsFront}
 use Rattle.driver.proofs.FaultsOfCommands.{none_refused}
+use Rattle.driver.proofs.ToldSo.{told_so}
 use Rattle.driver.proofs.ReadGiven.{of_report, on_err, read_words}
 use Rattle.driver.proofs.check.check.Goals as goal
 
@@ -50,8 +52,12 @@ returns-in_err-print-clause-begun g c =
         outside = input.outside;
         are_read = c.in_ok-input.ensures.read;
         report = report;
+        telling = c.telling_of.result;
+        is_telling =
+            told_so c.edition_of_run.result (edition_of_run c.args.asked.now.sources) c.args.asked.now.report true _ _ _
+            c.edition_of_run.ensures c.deref.ensures.value c.telling_of.ensures;
         is_report = c.in_ok-report.ensures.report;
-        so = subst (AppendsFront old new) c.deref.ensures.value c.in_err-print.ensures.begun;
+        so = subst (AppendsFront old new) c.deref-2.ensures.value c.in_err-print.ensures.begun;
       },
     ))
 
@@ -61,15 +67,19 @@ returns-clause-written g c =
     let report = c.in_ok-report.report in
     let old = g.W.Write.contents c.args.out.now in
     let new = g.W.Write.contents c.print.new.out in (
-      report.yes,
+      report.passes,
       c.of_verdict.ensures,
       record {
         given = input.given.items;
         outside = input.outside;
         are_read = c.in_ok-input.ensures.read;
         report = report;
+        telling = c.telling_of.result;
+        is_telling =
+            told_so c.edition_of_run.result (edition_of_run c.args.asked.now.sources) c.args.asked.now.report true _ _ _
+            c.edition_of_run.ensures c.deref.ensures.value c.telling_of.ensures;
         is_report = c.in_ok-report.ensures.report;
-        so = (refl, subst (Appends old new) c.deref.ensures.value c.in_ok-print.ensures.written);
+        so = (refl, subst (Appends old new) c.deref-2.ensures.value c.in_ok-print.ensures.written);
       },
     )
 

@@ -31,6 +31,7 @@ returns-clause-read g c =
     record {
       are_declared = c.in_ok-declared.ensures.declared;
       is_digest = c.in_ok-digest.ensures;
+      are_known = c.in_ok-baseline.ensures.known;
       are_told =
           subst (λ n. AreTold n (digest_in declared.file) unit told.items) edition
           (subst (λ d. AreTold c.number_of.result d unit told.items) digest c.in_ok-told.ensures.told);

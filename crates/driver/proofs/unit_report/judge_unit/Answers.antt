@@ -17,10 +17,12 @@ returns-clause-judged g c =
           subst (λ module_path. AreCounted module_path input.told.items imports) c.as_str.ensures.value
           (subst (λ told. AreCounted c.as_str.result.now told imports) c.deref.ensures.value c.in_ok-imports.ensures);
       form = form;
-      is_form = subst (λ id. IsFormOf flags id form) c.as_str-3.ensures.value c.form_of-form.ensures;
+      is_form =
+          subst (λ id. IsFormOf flags id input.baseline.findings.items form) c.as_str-3.ensures.value
+          (subst (λ known. IsFormOf flags c.as_str-3.result.now known form) c.deref-2.ensures.value c.form_of-form.ensures);
       report = report;
       is_report =
-          subst (λ told. IsReportOfUnit form (packages_of input.outside) told input.given report) c.deref-2.ensures.value
+          subst (λ told. IsReportOfUnit form (packages_of input.outside) told input.given report) c.deref-3.ensures.value
           c.in-Ok.ensures.report;
       is_text = refl;
       is_kept = record { is_name = refl; is_fault = refl; is_yes = refl; are_functions = refl };

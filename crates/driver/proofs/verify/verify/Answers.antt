@@ -1,10 +1,12 @@
-use Rattle.std.proofs.Common.{◌≡◌, IsErrAnd, refl, rules, subst}
+use Rattle.std.proofs.Common.{◌≡◌, IsErrAnd, refl, rules, subst, false}
 use Rattle.std.specs.Io.KnownBytes.{Appends}
 use Rattle.folders.specs.declared.fault.Fault.TheVariants.{CannotWrite}
 use Rattle.unit_reading.proofs.HandedOn.{handed_on}
 use Rattle.driver.specs.Faults.{IsVerificationFault}
+use Rattle.driver.specs.Packages.{edition_of_run}
 use Rattle.driver.specs.Printing.{AppendsFront}
 use Rattle.driver.proofs.FaultsOfCommands.{of_verdict}
+use Rattle.driver.proofs.ToldSo.{told_so}
 use Rattle.driver.proofs.ReadGiven.{on_err, read_words}
 use Rattle.driver.proofs.verify.verify.Goals as goal
 
@@ -42,8 +44,12 @@ returns-in_err-print-clause-begun g c =
         certificates = read.certificates;
         stand_in = c.in_ok-read.ensures.certificates;
         report = report;
+        telling = c.telling_of-telling.result;
+        is_telling =
+            told_so c.edition_of_run.result (edition_of_run c.args.asked.now.sources) c.args.asked.now.report false _ _ _
+            c.edition_of_run.ensures c.deref.ensures.value c.telling_of-telling.ensures;
         is_report = c.in_ok-report.ensures.report;
-        so = subst (AppendsFront old new) c.deref.ensures.value c.in_err-print.ensures.begun;
+        so = subst (AppendsFront old new) c.deref-2.ensures.value c.in_err-print.ensures.begun;
       },
     ))
 
@@ -53,7 +59,7 @@ returns-clause-written g c =
     let report = c.in_ok-report.report in
     let old = g.W.Write.contents c.args.out.now in
     let new = g.W.Write.contents c.print.new.out in (
-      report.yes,
+      report.passes,
       c.of_verdict.ensures,
       record {
         given = read.input.given.items;
@@ -62,7 +68,11 @@ returns-clause-written g c =
         certificates = read.certificates;
         stand_in = c.in_ok-read.ensures.certificates;
         report = report;
+        telling = c.telling_of-telling.result;
+        is_telling =
+            told_so c.edition_of_run.result (edition_of_run c.args.asked.now.sources) c.args.asked.now.report false _ _ _
+            c.edition_of_run.ensures c.deref.ensures.value c.telling_of-telling.ensures;
         is_report = c.in_ok-report.ensures.report;
-        so = (refl, subst (Appends old new) c.deref.ensures.value c.in_ok-print.ensures.written);
+        so = (refl, subst (Appends old new) c.deref-2.ensures.value c.in_ok-print.ensures.written);
       },
     )

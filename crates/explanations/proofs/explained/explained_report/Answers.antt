@@ -3,7 +3,7 @@ use Rattle.explanations.proofs.PackageWays.{are_told}
 use Rattle.explanations.proofs.UseNotes.{have_use_notes}
 use Rattle.explanations.specs.KeptUses.{uses_view}
 use Rattle.explanations.specs.ToldViews.{ways_view}
-use Rattle.report_formats.specs.ExplainedText.{plain_of}
+use Rattle.report.specs.Notes.{plain_of}
 use Rattle.explanations.proofs.explained.explained_report.Goals as goal
 
 pub returns-clause-notes : goal.returns-clause-notes

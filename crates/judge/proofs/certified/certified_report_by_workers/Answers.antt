@@ -6,7 +6,7 @@ use Rattle.judge.proofs.certified.certified_report_by_workers.Goals as goal
 
 pub returns-in-Ok-certified_loaded-clause-report : goal.returns-in-Ok-certified_loaded-clause-report
 returns-in-Ok-certified_loaded-clause-report g c =
-    is_certified c.args.settings.format (packages_of c.args.outside) c.args.given.items c.in-Ok.loaded c.in-Ok-certified_loaded.told
+    is_certified c.args.settings.telling (packages_of c.args.outside) c.args.given.items c.in-Ok.loaded c.in-Ok-certified_loaded.told
     c.in-Ok.ensures.loaded c.in-Ok-certified_loaded.ensures.certified
 
 pub returns-in-Err-certified_loaded-clause-fault : goal.returns-in-Err-certified_loaded-clause-fault

@@ -6,7 +6,7 @@ use Rattle.judge.proofs.explained.explained_report_by_workers.Goals as goal
 
 pub returns-in-Ok-explained_loaded-clause-report : goal.returns-in-Ok-explained_loaded-clause-report
 returns-in-Ok-explained_loaded-clause-report g c =
-    is_explained c.args.settings.format (packages_of c.args.outside) c.args.given.items c.in-Ok.loaded c.in-Ok-explained_loaded.told
+    is_explained c.args.settings.telling (packages_of c.args.outside) c.args.given.items c.in-Ok.loaded c.in-Ok-explained_loaded.told
     c.in-Ok.ensures.loaded c.in-Ok-explained_loaded.ensures.explained
 
 pub returns-in-Err-explained_loaded-clause-fault : goal.returns-in-Err-explained_loaded-clause-fault

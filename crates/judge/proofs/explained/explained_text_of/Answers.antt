@@ -3,7 +3,6 @@ use Rattle.all_packages.specs.Reports.{AreReports}
 use Rattle.declared_json.specs.DeclaredPackages.{packages_of}
 use Rattle.declared_tables.specs.DeclaredTables.{declared_tables}
 use Rattle.explanations.specs.Plain.{judged_view}
-use Rattle.report_formats.specs.Formats.{explained_in}
 use Rattle.judge.proofs.explained.explained_text_of.Goals as goal
 
 pub returns-clause-explained : goal.returns-clause-explained
@@ -24,5 +23,5 @@ returns-clause-explained g c =
           c.in_ok-explained.ensures.notes ps tell distinct
           (subst (λ said. AreReports declared ps c.args.packages.now said) (sym same)
           (c.in_ok-judged.ensures.reports ps tell distinct));
-      is_text = c.in_ok-text.ensures ∙ ap (explained_in c.args.settings.format) c.deref-2.ensures.value;
+      is_text = c.in_ok-text.ensures;
     }

@@ -6,7 +6,7 @@ use Rattle.judge.proofs.reports.report_by_workers.Goals as goal
 
 pub returns-in-Ok-report_loaded_by_workers-clause-report : goal.returns-in-Ok-report_loaded_by_workers-clause-report
 returns-in-Ok-report_loaded_by_workers-clause-report g c =
-    is_report c.args.settings.format (packages_of c.args.outside) c.args.given.items c.in-Ok.loaded c.in-Ok-report_loaded_by_workers.report
+    is_report c.args.settings.telling (packages_of c.args.outside) c.args.given.items c.in-Ok.loaded c.in-Ok-report_loaded_by_workers.report
     c.in-Ok.ensures.loaded c.in-Ok-report_loaded_by_workers.ensures.report
 
 pub returns-in-Err-report_loaded_by_workers-clause-fault : goal.returns-in-Err-report_loaded_by_workers-clause-fault

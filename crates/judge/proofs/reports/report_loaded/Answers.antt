@@ -1,5 +1,5 @@
 use Rattle.std.proofs.Common.{IfOk, subst}
-use Rattle.all_packages.specs.Reports.{TellsReport}
+use Rattle.told_reports.specs.Reports.{TellsReport}
 use Rattle.declared_tables.specs.DeclaredTables.{declared_tables}
 use Rattle.declared_json.specs.DeclaredPackages.{packages_of}
 use Rattle.judge.proofs.reports.report_loaded.Goals as goal
@@ -7,5 +7,5 @@ use Rattle.judge.proofs.reports.report_loaded.Goals as goal
 pub returns : goal.returns
 returns c =
     let declared = declared_tables (packages_of c.args.loaded.outside) in
-    subst (λ kept. IfOk c.whole_report-told.result (TellsReport c.args.format declared kept)) c.deref.ensures.value
+    subst (λ kept. IfOk c.whole_report-told.result (TellsReport c.args.telling declared kept)) c.deref.ensures.value
     c.whole_report-told.ensures

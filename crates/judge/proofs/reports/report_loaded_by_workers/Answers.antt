@@ -1,5 +1,5 @@
 use Rattle.std.proofs.Common.{IfErr, IfOk, length, subst}
-use Rattle.all_packages.specs.Reports.{TellsReport}
+use Rattle.told_reports.specs.Reports.{TellsReport}
 use Rattle.declared_tables.specs.DeclaredTables.{declared_tables}
 use Rattle.declared_json.specs.DeclaredPackages.{packages_of}
 use Rattle.package_workers.specs.Faults.{IsFaultOf}
@@ -9,7 +9,7 @@ use Rattle.judge.proofs.reports.report_loaded_by_workers.Goals as goal
 pub returns-clause-report : goal.returns-clause-report
 returns-clause-report g c =
     let declared = declared_tables (packages_of c.args.loaded.outside) in
-    subst (λ kept. IfOk c.whole_report_by_workers-report.result (TellsReport c.args.settings.format declared kept))
+    subst (λ kept. IfOk c.whole_report_by_workers-report.result (TellsReport c.args.settings.telling declared kept))
     c.deref.ensures.value c.whole_report_by_workers-report.ensures.report
 
 pub returns-clause-fault : goal.returns-clause-fault

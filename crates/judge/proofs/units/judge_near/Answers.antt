@@ -1,47 +1,44 @@
-use Rattle.std.proofs.Common.{sym, subst}
+use Rattle.std.proofs.Common.{◌≡◌, true, false, sym, ap, ◌∙◌, subst}
+use Rattle.accepting.specs.Findings.{explained_package, plain_package}
 use Rattle.judge.specs.UnitParts.{NotesByNear}
-use Rattle.judge.specs.Units.{IsExplainedText, IsUnitText}
+use Rattle.judge.specs.Units.{HoldsOfUnit, HoldsExplained}
 use Rattle.one_package.specs.Neighbours.{nearby_view}
+use Rattle.told_reports.specs.UnitTexts.{unit_text_in}
 use Rattle.judge.proofs.units.judge_near.Goals as goal
 
-pub returns-in_ok-text-in-Text : goal.returns-in_ok-text-in-Text
-returns-in_ok-text-in-Text c = record {
-  tells = c.in_ok-judged.ensures.told;
-  follows = λ declared ps i p told h.
-      c.in_ok-judged.ensures.follows declared ps i p told h.is_near h.is_there h.tells h.is_known h.are_told;
-  is_text =
-      subst (λ form. IsUnitText form c.in_ok-judged.judged (NotesByNear c.args.loaded.now (nearby_view c.args.near) c.args.known.now)
-      c.in_ok-text-in-Text.text.items) (sym c.in-Text.is) c.in_ok-text-in-Text.ensures;
-}
-
-pub returns-in_ok-text-in-Json : goal.returns-in_ok-text-in-Json
-returns-in_ok-text-in-Json c = record {
-  tells = c.in_ok-judged.ensures.told;
-  follows = λ declared ps i p told h.
-      c.in_ok-judged.ensures.follows declared ps i p told h.is_near h.is_there h.tells h.is_known h.are_told;
-  is_text =
-      subst (λ form. IsUnitText form c.in_ok-judged.judged (NotesByNear c.args.loaded.now (nearby_view c.args.near) c.args.known.now)
-      c.in_ok-text-in-Json.text.items) (sym c.in-Json.is) c.in_ok-text-in-Json.ensures;
-}
-
-pub returns-in_ok-text-in-Explained : goal.returns-in_ok-text-in-Explained
-returns-in_ok-text-in-Explained c =
+pub returns-in_ok-text : goal.returns-in_ok-text
+returns-in_ok-text c =
     let follows = c.in_ok-judged.ensures.follows in
-    let explained : IsExplainedText c.in_ok-judged.judged
-    (NotesByNear c.args.loaded.now (nearby_view c.args.near) c.args.known.now) c.in-Explained.around c.in_ok-text-in-Explained.text.items =
+    let explained : HoldsExplained c.in_ok-judged.judged
+    (NotesByNear c.args.loaded.now (nearby_view c.args.near) c.args.known.now)
+    (λ found. c.in_ok-text.text.items ≡ unit_text_in c.args.form found) =
     record {
-      explained = c.in_ok-explained-in-Explained.explained;
-      is_same = c.in_ok-explained-in-Explained.ensures.plain;
+      explained = c.in_ok-explained.explained;
+      is_same = c.in_ok-explained.ensures.plain;
       are_notes = λ declared ps i p told h.
-          c.in_ok-explained-in-Explained.ensures.notes declared ps i p told h.is_near h.is_there h.tells h.is_known h.are_told
+          c.in_ok-explained.ensures.notes declared ps i p told h.is_near h.is_there h.tells h.is_known h.are_told
           (follows declared ps i p told h.is_near h.is_there h.tells h.is_known h.are_told);
-      is_text = c.in_ok-text-in-Explained.ensures;
+      so = c.in_ok-text.ensures ∙ ap (unit_text_in c.args.form) c.in_ok-found.ensures;
     } in
     record {
       tells = c.in_ok-judged.ensures.told;
       follows = λ declared ps i p told h. follows declared ps i p told h.is_near h.is_there h.tells h.is_known h.are_told;
       is_text =
-          subst (λ form. IsUnitText form c.in_ok-judged.judged
-          (NotesByNear c.args.loaded.now (nearby_view c.args.near) c.args.known.now) c.in_ok-text-in-Explained.text.items)
-          (sym c.in-Explained.is) explained;
+          subst (λ asked. HoldsOfUnit asked c.in_ok-judged.judged
+          (NotesByNear c.args.loaded.now (nearby_view c.args.near) c.args.known.now)
+          (λ found. c.in_ok-text.text.items ≡ unit_text_in c.args.form found))
+          (sym c.if-form.true) explained;
     }
+
+pub returns-in_ok-text-2 : goal.returns-in_ok-text-2
+returns-in_ok-text-2 c = record {
+  tells = c.in_ok-judged.ensures.told;
+  follows = λ declared ps i p told h.
+      c.in_ok-judged.ensures.follows declared ps i p told h.is_near h.is_there h.tells h.is_known h.are_told;
+  is_text =
+      subst (λ asked. HoldsOfUnit asked c.in_ok-judged.judged
+      (NotesByNear c.args.loaded.now (nearby_view c.args.near) c.args.known.now)
+      (λ found. c.in_ok-text-2.text.items ≡ unit_text_in c.args.form found))
+      (sym c.if-form.false)
+      (c.in_ok-text-2.ensures ∙ ap (unit_text_in c.args.form) c.in_ok-found-2.ensures);
+}

@@ -1,6 +1,6 @@
 use Rattle.std.proofs.Common.{subst}
 use Rattle.std.proofs.lemmas.Result.{IfOk-weaker}
-use Rattle.all_packages.specs.Reports.{TellsReportBy}
+use Rattle.told_reports.specs.Reports.{TellsReportBy}
 use Rattle.declared_tables.specs.DeclaredTables.{declared_tables}
 use Rattle.declared_json.specs.DeclaredPackages.{packages_of}
 use Rattle.verifier.specs.GivenViews.{given_of}
@@ -14,7 +14,7 @@ returns c =
     (λ report told.
     subst
     (λ (given : GivenByPath).
-    TellsReportBy c.args.format (by_certificates given declared) c.args.packages.now report)
+    TellsReportBy c.args.telling (by_certificates given declared) c.args.packages.now report)
     (λ i path. given_of (c.in_ok-rules.ensures path i))
     (record {
       said = c.in_ok-judged.judged.items;

@@ -11,9 +11,9 @@ returns-in-Ok-Told-clause-report g c =
     let given = c.args.given.items in
     let loaded = c.in-Ok.loaded in
     let certificates = c.args.certificates.now in
-    is_verified c.args.format outside given loaded certificates c.in-Ok-Told.report c.in-Ok.ensures.loaded
-    (subst (TellsVerified c.args.format (declared_tables outside) loaded.packages.items certificates) c.in-Ok-Told.field-0-is
-    (told_beside c.args.format outside given loaded certificates _ c.in-Ok.ensures.loaded c.in-Ok-Told.ensures))
+    is_verified c.args.telling outside given loaded certificates c.in-Ok-Told.report c.in-Ok.ensures.loaded
+    (subst (TellsVerified c.args.telling (declared_tables outside) loaded.packages.items certificates) c.in-Ok-Told.field-0-is
+    (told_beside c.args.telling outside given loaded certificates _ c.in-Ok.ensures.loaded c.in-Ok-Told.ensures))
 
 pub returns-in-Ok-IsTooOld-clause-fault : goal.returns-in-Ok-IsTooOld-clause-fault
 returns-in-Ok-IsTooOld-clause-fault g c =
@@ -21,6 +21,6 @@ returns-in-Ok-IsTooOld-clause-fault g c =
     let given = c.args.given.items in
     let loaded = c.in-Ok.loaded in
     let certificates = c.args.certificates.now in
-    are_too_old c.args.format outside given loaded certificates c.in-Ok-IsTooOld.path c.in-Ok.ensures.loaded
-    (subst (TellsVerified c.args.format (declared_tables outside) loaded.packages.items certificates) c.in-Ok-IsTooOld.field-0-is
-    (told_beside c.args.format outside given loaded certificates _ c.in-Ok.ensures.loaded c.in-Ok-IsTooOld.ensures))
+    are_too_old c.args.telling outside given loaded certificates c.in-Ok-IsTooOld.path c.in-Ok.ensures.loaded
+    (subst (TellsVerified c.args.telling (declared_tables outside) loaded.packages.items certificates) c.in-Ok-IsTooOld.field-0-is
+    (told_beside c.args.telling outside given loaded certificates _ c.in-Ok.ensures.loaded c.in-Ok-IsTooOld.ensures))

@@ -1,12 +1,12 @@
 use Rattle.std.proofs.Common.{refl, ◌∙◌}
 use Rattle.std.proofs.lemmas.Result.{err_from_is_err_and}
-use Rattle.report_formats.specs.JsonText.{name_value}
-use Rattle.report_formats.proofs.Steps.{begins, goes_on, ends, stops}
+use Rattle.report_formats.proofs.JsonPieces.{name_value, names_are}
+use Rattle.report_formats.proofs.Steps.{begins_as, goes_on, ends, stops}
 use Rattle.report_formats.proofs.Values.{next_listed, none_listed}
 use Rattle.report_formats.proofs.json_report.write_names.Goals as goal
 
 pub loop-name-init : goal.loop-name-init
-loop-name-init g c = (begins _ _, refl)
+loop-name-init g c = (begins_as _ _ _ (names_are c.args.names.now), refl)
 
 pub loop-name-preserved : goal.loop-name-preserved
 loop-name-preserved g c =

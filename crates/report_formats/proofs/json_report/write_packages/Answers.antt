@@ -1,23 +1,23 @@
 use Rattle.std.proofs.Common.{refl, ◌∙◌}
 use Rattle.std.proofs.lemmas.Result.{err_from_is_err_and}
-use Rattle.report_formats.specs.JsonText.{package_value}
+use Rattle.report_formats.proofs.JsonPieces.{package_data}
 use Rattle.report_formats.proofs.Steps.{begins, goes_on, ends, stops}
 use Rattle.report_formats.proofs.Values.{next_item, none_listed}
 use Rattle.report_formats.proofs.json_report.write_packages.Goals as goal
 
-pub loop-report-init : goal.loop-report-init
-loop-report-init g c = (begins _ _, refl)
+pub loop-package-init : goal.loop-package-init
+loop-package-init g c = (begins _ _, refl)
 
-pub loop-report-preserved : goal.loop-report-preserved
-loop-report-preserved g c =
-    let next = next_item package_value c.loop-report.is_later c.args.reports.now c.loop-report.report-index c.report-item.result c.loop-report-test.true c.report-item.is in
-    (goes_on _ _ _ _ _ _ _ next c.loop-report.invariant.0 c.in_ok-write_package.ensures.taken, c.in_ok-write_package.ensures.refusals ∙ c.loop-report.invariant.1)
+pub loop-package-preserved : goal.loop-package-preserved
+loop-package-preserved g c =
+    let next = next_item (package_data c.args.style) c.loop-package.is_later c.args.packages.now c.loop-package.package-index c.package-item.result c.loop-package-test.true c.package-item.is in
+    (goes_on _ _ _ _ _ _ _ next c.loop-package.invariant.0 c.in_ok-write_package.ensures.taken, c.in_ok-write_package.ensures.refusals ∙ c.loop-package.invariant.1)
 
 pub returns-in_err-write_package-clause-taken : goal.returns-in_err-write_package-clause-taken
 returns-in_err-write_package-clause-taken g c =
     let p = err_from_is_err_and c.from_residual.result c.from_residual.ensures.1 in
-    let next = next_item package_value c.loop-report.is_later c.args.reports.now c.loop-report.report-index c.report-item.result c.loop-report-test.true c.report-item.is in
-    stops _ _ _ _ _ _ _ next c.loop-report.invariant.0 c.in_err-write_package.ensures.taken _ p.0 p.1
+    let next = next_item (package_data c.args.style) c.loop-package.is_later c.args.packages.now c.loop-package.package-index c.package-item.result c.loop-package-test.true c.package-item.is in
+    stops _ _ _ _ _ _ _ next c.loop-package.invariant.0 c.in_err-write_package.ensures.taken _ p.0 p.1
 
 pub returns-clause-taken : goal.returns-clause-taken
-returns-clause-taken g c = ends _ _ _ _ (none_listed package_value _ c.args.reports.now c.loop-report.report-index c.loop-report-test.false) c.loop-report.invariant.0
+returns-clause-taken g c = ends _ _ _ _ (none_listed (package_data c.args.style) _ c.args.packages.now c.loop-package.package-index c.loop-package-test.false) c.loop-package.invariant.0

@@ -8,15 +8,18 @@ use Rattle.report_formats.proofs.sarif.open_log.Goals as goal
 pub returns-in_err-put_all-clause-taken : goal.returns-in_err-put_all-clause-taken
 returns-in_err-put_all-clause-taken g c =
     let p = err_from_is_err_and c.from_residual.result c.from_residual.ensures.1 in
-    stops _ _ _ _ _ _ _ (front_is rule_codes refl) (begins _ _) c.in_err-put_all.ensures.taken _ p.0 p.1
+    let parts = front_is c.args.wording (rule_codes c.args.wording) refl in
+    stops _ _ _ _ _ _ _ parts (begins _ _) c.in_err-put_all.ensures.taken _ p.0 p.1
 
 pub returns-in_err-write_rules-clause-taken : goal.returns-in_err-write_rules-clause-taken
 returns-in_err-write_rules-clause-taken g c =
     let p = err_from_is_err_and c.from_residual-in_err-write_rules.result c.from_residual-in_err-write_rules.ensures.1 in
-    let begun = goes_on _ _ _ _ _ _ _ (front_is _ c.rule_codes.ensures) (begins _ _) c.in_ok-put_all.ensures.taken in
-    stops _ _ _ _ _ _ _ refl begun c.in_err-write_rules.ensures.taken _ p.0 p.1
+    let parts = front_is c.args.wording _ c.rule_codes.ensures in
+    let after_put_all = goes_on _ _ _ _ _ _ _ parts (begins _ _) c.in_ok-put_all.ensures.taken in
+    stops _ _ _ _ _ _ _ refl after_put_all c.in_err-write_rules.ensures.taken _ p.0 p.1
 
 pub returns-clause-taken : goal.returns-clause-taken
 returns-clause-taken g c =
-    let begun = goes_on _ _ _ _ _ _ _ (front_is _ c.rule_codes.ensures) (begins _ _) c.in_ok-put_all.ensures.taken in
-    last_call _ _ _ _ _ (goes_on _ _ _ _ _ _ _ refl begun c.in_ok-write_rules.ensures.taken) _ c.put_all-2.ensures.taken
+    let parts = front_is c.args.wording _ c.rule_codes.ensures in
+    let after_put_all = goes_on _ _ _ _ _ _ _ parts (begins _ _) c.in_ok-put_all.ensures.taken in
+    last_call _ _ _ _ _ (goes_on _ _ _ _ _ _ _ refl after_put_all c.in_ok-write_rules.ensures.taken) _ c.put_all-2.ensures.taken

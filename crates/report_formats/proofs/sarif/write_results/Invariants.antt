@@ -1,10 +1,10 @@
 use Rattle.std.proofs.Common.{◌≡◌, false, flat_map, drop}
-use Rattle.report_formats.specs.SarifText.{package_results}
 use Rattle.report_formats.specs.Pieces.{listed}
+use Rattle.report_formats.proofs.SarifPieces.{results_of}
 use Rattle.report_formats.proofs.Steps.{Goes}
 use Rattle.report_formats.proofs.sarif.write_results.Given as goal
 
-abbrev pub invariant-loop-report : goal.invariant-loop-report
-invariant-loop-report g l =
-    Goes (listed false (flat_map package_results l.reports)) (g.S.Sink.taken l.initial.sink) (g.S.Sink.taken l.sink) (listed l.is_later (flat_map package_results (drop l.report-index l.reports)))
+abbrev pub invariant-loop-package : goal.invariant-loop-package
+invariant-loop-package g l =
+    Goes (listed false (flat_map (results_of l.style) l.packages)) (g.S.Sink.taken l.initial.sink) (g.S.Sink.taken l.sink) (listed l.is_later (flat_map (results_of l.style) (drop l.package-index l.packages)))
     × (g.S.Sink.refusals l.sink ≡ g.S.Sink.refusals l.initial.sink)

@@ -10,14 +10,14 @@ loop-code-init g c = (begins _ _, refl)
 
 pub loop-code-preserved : goal.loop-code-preserved
 loop-code-preserved g c =
-    let next = next_listed rule_value c.loop-code.is_later c.args.codes.now c.loop-code.code-index _ c.loop-code-test.true in
+    let next = next_listed (rule_value c.args.wording) c.loop-code.is_later c.args.codes.now c.loop-code.code-index _ c.loop-code-test.true in
     (goes_on _ _ _ _ _ _ _ next c.loop-code.invariant.0 c.in_ok-write_rule.ensures.taken, c.in_ok-write_rule.ensures.refusals ∙ c.loop-code.invariant.1)
 
 pub returns-in_err-write_rule-clause-taken : goal.returns-in_err-write_rule-clause-taken
 returns-in_err-write_rule-clause-taken g c =
     let p = err_from_is_err_and c.from_residual.result c.from_residual.ensures.1 in
-    let next = next_listed rule_value c.loop-code.is_later c.args.codes.now c.loop-code.code-index _ c.loop-code-test.true in
+    let next = next_listed (rule_value c.args.wording) c.loop-code.is_later c.args.codes.now c.loop-code.code-index _ c.loop-code-test.true in
     stops _ _ _ _ _ _ _ next c.loop-code.invariant.0 c.in_err-write_rule.ensures.taken _ p.0 p.1
 
 pub returns-clause-taken : goal.returns-clause-taken
-returns-clause-taken g c = ends _ _ _ _ (none_listed rule_value _ c.args.codes.now c.loop-code.code-index c.loop-code-test.false) c.loop-code.invariant.0
+returns-clause-taken g c = ends _ _ _ _ (none_listed (rule_value c.args.wording) _ c.args.codes.now c.loop-code.code-index c.loop-code-test.false) c.loop-code.invariant.0

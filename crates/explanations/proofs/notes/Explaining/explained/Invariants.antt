@@ -1,7 +1,7 @@
 use Rattle.std.proofs.Common.{◌≡◌, ◌++◌, drop, map}
 use Rattle.explanations.specs.Found.{AreNotesByWays}
 use Rattle.explanations.specs.KeptUses.{uses_view, AreNotesByUses}
-use Rattle.report_formats.specs.ExplainedText.{plain_of}
+use Rattle.report.specs.Notes.{plain_of}
 use Rattle.explanations.specs.ToldViews.{ways_view}
 use Rattle.explanations.proofs.notes.Explaining.explained.Given as goal
 

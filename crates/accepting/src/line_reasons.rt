@@ -1,0 +1,99 @@
+//! For which reason a line accepts a finding.
+
+ghost use Rattle.std.specs.Prelude.{◌≡◌, option_map};
+ghost use Rattle.directives.specs.Directives.{directive_view};
+ghost use Rattle.accepting.specs.ByLines.{accepted_on, if_alone, own_reason, reason_above, reason_for, reason_of};
+ghost use Rattle.accepting.specs.Findings.{finding_view};
+ghost use Rattle.accepting.specs.LinesKept.{lines_of, text_of};
+
+use crate::acceptable::is_acceptable;
+use crate::directive_lines::DirectiveLines;
+use crate::findings::{Acceptance, Finding};
+use directives::{Directive, names_code};
+use report::DiagnosticCode;
+
+/// The reason of a directive, if it accepts this code.
+fn reason_of<'a>(directive: Option<Directive<'a>>, code: DiagnosticCode) -> Option<&'a [u8]>
+    ensures { option_map text_of result ≡ reason_of (option_map directive_view directive.entry) code }
+{
+    let accepts = directive?.accepts?;
+    if is_acceptable(code) && names_code(accepts.codes, code.number()) {
+        Some(accepts.reason)
+    } else {
+        None
+    }
+}
+
+/// The directive, if it stands alone on its line.
+fn if_alone<'a>(directive: Option<Directive<'a>>) -> Option<Directive<'a>>
+    ensures { option_map directive_view result ≡ if_alone (option_map directive_view directive.entry) }
+{
+    let found = directive?;
+    if found.is_alone { Some(found) } else { None }
+}
+
+/// The reason that the directive on a line gives for a finding with this code on that line.
+pub(crate) fn own_reason<'a>(
+    lines: &DirectiveLines<'a>,
+    file: usize,
+    line: usize,
+    code: DiagnosticCode,
+) -> Option<&'a [u8]>
+    ensures { option_map text_of result ≡ own_reason (lines_of lines.now) file line code }
+{
+    reason_of(lines.on_line(file, line), code)
+}
+
+/// The reason that the directive alone on the line above gives for it.
+pub(crate) fn reason_above<'a>(
+    lines: &DirectiveLines<'a>,
+    file: usize,
+    line: usize,
+    code: DiagnosticCode,
+) -> Option<&'a [u8]>
+    ensures { option_map text_of result ≡ reason_above (lines_of lines.now) file line code }
+{
+    reason_of(if_alone(lines.on_line(file, line.saturating_sub(1))), code)
+}
+
+/// The reason for which it is accepted, if it is.
+fn reason_for<'a>(
+    lines: &DirectiveLines<'a>,
+    file: usize,
+    line: usize,
+    code: DiagnosticCode,
+) -> Option<&'a [u8]>
+    ensures { option_map text_of result ≡ reason_for (lines_of lines.now) file line code }
+{
+    match own_reason(lines, file, line, code) {
+        Some(reason) => Some(reason),
+        None => reason_above(lines, file, line, code),
+    }
+}
+
+/// The finding, which stands on this line, accepted where a line accepts it.
+pub(crate) fn accepted_on<'a>(
+    lines: &DirectiveLines<'a>,
+    line: usize,
+    finding: Finding<'a>,
+) -> Finding<'a>
+    ensures { finding_view result ≡ accepted_on (lines_of lines.now) line (finding_view finding.entry) }
+{
+    let Finding {
+        diagnostic,
+        notes,
+        acceptance,
+    } = finding;
+    match reason_for(lines, diagnostic.file, line, diagnostic.code) {
+        Some(reason) => Finding {
+            diagnostic,
+            notes,
+            acceptance: Some(Acceptance::ByLine(reason)),
+        },
+        None => Finding {
+            diagnostic,
+            notes,
+            acceptance,
+        },
+    }
+}

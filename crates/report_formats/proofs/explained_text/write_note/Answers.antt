@@ -1,9 +1,0 @@
-use Rattle.report_formats.proofs.NoteLines.{line_is}
-use Rattle.report_formats.proofs.Steps.{written_as}
-use Rattle.report_formats.proofs.explained_text.write_note.Goals as goal
-
-pub returns-clause-taken : goal.returns-clause-taken
-returns-clause-taken g c =
-    let t = c.text_parts.result in
-    let parts = line_is c.args.note.now _ _ _ t.0.now t.1.now t.2.now t.3.now t.4.now c.name_of.ensures c.note_place-place.ensures.line c.note_place-place.ensures.column c.text_parts.ensures in
-    written_as _ _ _ _ parts _ c.put_pieces.ensures.taken

@@ -1,0 +1,8 @@
+package b
+
+import "context"
+
+func f(p context.Context) {
+	_, cancel := context.WithCancel(p)
+	use(cancel)
+}	//ctxvet:accept LC05 	 a	tab within	

@@ -1,0 +1,3 @@
+package c
+
+func 1() {} //ctxvet:accept LC02 known

@@ -1,0 +1,13 @@
+package a
+
+import "context"
+
+func f(p context.Context) {
+	_, cancel := context.WithCancel(p)
+	use(cancel)
+} //ctxvet:accept LC05 known
+
+func g(p context.Context) {
+	_, cancel := context.WithCancel(p)
+	use(cancel)
+}

@@ -1,0 +1,3 @@
+package g
+
+func most[T any](x, y T) T { return x }

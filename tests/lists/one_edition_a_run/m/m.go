@@ -1,0 +1,3 @@
+package m
+
+func most[T any](x, y T) T { return y }

@@ -1,0 +1,11 @@
+package d
+
+import "context"
+
+func f(p context.Context, b bool) {
+	_, cancel := context.WithCancel(p)
+	if b {
+		return
+	}
+	cancel()
+}
