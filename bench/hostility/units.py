@@ -70,7 +70,7 @@ def commands(bench):
     loud, silent = put_unit(bench, "b.cfg", "b", told, OUT), put_unit(bench, "silent.cfg", "b", told, OUT, True)
     place = bench.at(PLACE)
     line = f"{place}: LC05 cancel {LOST}\n"
-    found = f'{{"category":"LC05","posn":"{place}","message":"{LOST}"}}'
+    found = f'{{"category":"LC05","posn":"{place}","message":"cancel {LOST}"}}'
     yield Unit(bench, [loud], 1, line)
     yield Unit(bench, ["-json", loud], 0, f'{{"b":{{"ctxvet":[{found}]}}}}\n')
     yield Unit(bench, ["-why", "-c=0", loud], 1, f"{line}11\t}}\n\t{bench.at('b/b.go:9:7')}: cancel is obtained\n")
