@@ -49,6 +49,16 @@ class Command:
     def is_whole(self, end):
         return end.says() == self.ample.says()
 
+    def lacks_notes(self, end):
+        """Whether only notes are missing, for which memory was refused: they are made in memory, and change nothing."""
+        told, wanted = end.err.splitlines(True), self.ample.err.splitlines(True)
+        notes = [line for line in wanted if line not in told]
+        return (
+            end.says()[:2] == self.ample.says()[:2]
+            and told == [line for line in wanted if line not in notes]
+            and all(line.startswith(b"ctxvet: note: ") for line in notes)
+        )
+
     def trouble_of_file(self, end):
         """The file that is written has its old text or the whole new one, and the new one where all went well."""
         if not self.writes:
@@ -61,7 +71,7 @@ class Command:
     def trouble(self, end, faults, unwritten=()):
         """What is wrong with an end that may be whole, or one of these faults with nothing on standard output, or one
         of `unwritten` after the whole report."""
-        if self.is_whole(end) or (end.status == 2 and not end.out and end.err in faults):
+        if self.lacks_notes(end) or (end.status == 2 and not end.out and end.err in faults):
             return self.trouble_of_file(end)
         if self.writes and end.status == 2 and end.out == self.ample.out and end.err in unwritten:
             return self.trouble_of_file(end)
