@@ -1,0 +1,3 @@
+package tested // want package:`"yes":`
+
+func Name() string { return "tested" }
