@@ -26,7 +26,9 @@ ADDRESS = {"type": "string", "format": "uri"}
 NUMBER = {"type": "integer", "minimum": 1}
 INDEX = {"type": "integer", "minimum": -1}
 
-TEXT_FORMS = struct("text", {"text": TEXT}, "markdown")
+LEVEL = one_of("none", "note", "warning", "error")
+TAGGED = {"type": "object", "properties": {"tags": each(TEXT, minItems=0, uniqueItems=True)}}
+TEXT_FORMS = struct("text", {"text": TEXT, "markdown": TEXT})
 MESSAGE = {**struct("", {"text": TEXT, "id": TEXT}, "markdown arguments"), "anyOf": [{"required": ["text"]}, {"required": ["id"]}]}
 FILE = struct("", {"uri": {"type": "string", "format": "uri-reference"}, "uriBaseId": TEXT, "index": INDEX}, "description")
 REGION = struct(
@@ -46,30 +48,47 @@ STEP = struct(
 )
 THREAD_FLOW = struct("locations", {"locations": each(STEP, minItems=1)}, "id message initialState immutableState")
 CODE_FLOW = struct("threadFlows", {"threadFlows": each(THREAD_FLOW, minItems=1)}, "message")
+SUPPRESSION = struct("kind", {"kind": one_of("inSource", "external"), "justification": TEXT}, "guid status location")
 RESULT = struct(
     "message",
     {
         "ruleId": TEXT,
         "ruleIndex": INDEX,
-        "level": one_of("none", "note", "warning", "error"),
+        "level": LEVEL,
         "message": MESSAGE,
         "locations": each(LOCATION, uniqueItems=False),
         "codeFlows": each(CODE_FLOW, uniqueItems=False),
         "relatedLocations": each(LOCATION, uniqueItems=True),
+        "suppressions": each(SUPPRESSION, uniqueItems=True),
+        "partialFingerprints": {"type": "object", "additionalProperties": TEXT},
     },
-    "rule kind analysisTarget guid correlationGuid occurrenceCount partialFingerprints fingerprints stacks graphs"
-    " graphTraversals suppressions baselineState rank attachments hostedViewerUri workItemUris provenance"
-    " fixes taxa webRequest webResponse",
+    "rule kind analysisTarget guid correlationGuid occurrenceCount fingerprints stacks graphs graphTraversals"
+    " baselineState rank attachments hostedViewerUri workItemUris provenance fixes taxa webRequest webResponse",
 )
 RULE = struct(
     "id",
-    {"id": TEXT, "name": TEXT, "shortDescription": TEXT_FORMS, "fullDescription": TEXT_FORMS, "helpUri": ADDRESS},
-    "deprecatedIds guid deprecatedGuids deprecatedNames messageStrings defaultConfiguration help relationships",
+    {
+        "id": TEXT,
+        "name": TEXT,
+        "shortDescription": TEXT_FORMS,
+        "fullDescription": TEXT_FORMS,
+        "helpUri": ADDRESS,
+        "help": TEXT_FORMS,
+        "defaultConfiguration": struct("", {"level": LEVEL}, "enabled rank parameters"),
+        "properties": TAGGED,
+    },
+    "deprecatedIds guid deprecatedGuids deprecatedNames messageStrings relationships",
 )
 COMPONENT = struct(
     "name",
-    {"name": TEXT, "version": TEXT, "informationUri": ADDRESS, "rules": each(RULE, uniqueItems=True)},
-    "guid organization product productSuite shortDescription fullDescription fullName semanticVersion"
+    {
+        "name": TEXT,
+        "version": TEXT,
+        "semanticVersion": TEXT,
+        "informationUri": ADDRESS,
+        "rules": each(RULE, uniqueItems=True),
+    },
+    "guid organization product productSuite shortDescription fullDescription fullName"
     " dottedQuadFileVersion releaseDateUtc downloadUri globalMessageStrings notifications taxa locations language contents"
     " isComprehensive localizedDataSemanticVersion minimumRequiredLocalizedDataSemanticVersion associatedComponent"
     " translationMetadata supportedTaxonomies",
@@ -80,9 +99,10 @@ RUN = struct(
         "tool": struct("driver", {"driver": COMPONENT}, "extensions"),
         "results": each(RESULT, uniqueItems=False),
         "columnKind": one_of("utf16CodeUnits", "unicodeCodePoints"),
+        "automationDetails": struct("", {"id": TEXT}, "description guid correlationGuid"),
     },
     "invocations conversion language versionControlProvenance originalUriBaseIds artifacts logicalLocations graphs"
-    " automationDetails runAggregates baselineGuid redactionTokens defaultEncoding defaultSourceLanguage newlineSequences"
+    " runAggregates baselineGuid redactionTokens defaultEncoding defaultSourceLanguage newlineSequences"
     " externalPropertyFileReferences threadFlowLocations taxonomies addresses translations policies webRequests"
     " webResponses specialLocations",
 )

@@ -1,0 +1,12 @@
+package a
+
+import "context"
+
+func f(p context.Context, done bool) {
+	ctx, cancel := context.WithCancel(p)
+	if done {
+		return
+	}
+	use(ctx)
+	cancel()
+}
