@@ -1,7 +1,3 @@
 package a
 
-import "context"
-
-func f(p context.Context) {
-	use(p)
-}
+var greeting = "hello"

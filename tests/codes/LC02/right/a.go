@@ -1,6 +1,10 @@
 package a
 
-func f() {
-	for more() {
+import "context"
+
+func f(p context.Context) {
+	ctx, cancel := context.WithCancel(p)
+	defer cancel()
+	for more(ctx) {
 	}
 }

@@ -1,8 +1,12 @@
 package a
 
-func f() {
+import "context"
+
+func f(p context.Context) {
+	ctx, cancel := context.WithCancel(p)
+	defer cancel()
 again:
-	if more() {
+	if more(ctx) {
 		goto again
 	}
 }

@@ -2,16 +2,10 @@ package a
 
 import "context"
 
-func start(p context.Context) (context.Context, context.CancelFunc) {
-	return context.WithCancel(p)
+func (s *server) start(p context.Context) {
+	s.ctx, s.stop = context.WithCancel(p)
 }
 
-func finish(stop context.CancelFunc) {
-	stop()
-}
-
-func f(p context.Context) {
-	ctx, cancel := start(p)
-	use(ctx)
-	finish(cancel)
+func (s *server) Close() {
+	s.stop()
 }

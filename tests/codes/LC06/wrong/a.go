@@ -2,8 +2,6 @@ package a
 
 import "context"
 
-func f(p context.Context, s *server) {
-	ctx, cancel := context.WithCancel(p)
-	s.stop = cancel
-	use(ctx)
+func (s *server) start(p context.Context) {
+	s.ctx, s.stop = context.WithCancel(p)
 }
