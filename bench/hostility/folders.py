@@ -6,7 +6,7 @@ import subprocess
 import sys
 import threading
 
-from hostility.runs import OUT_OF_MEMORY, Section, trouble_of_form
+from hostility.runs import OUT_OF_MEMORY, Section, line_of, trouble_of_form
 from hostility.worked import DEFERRED, LOST, ON_ONE_BRANCH
 
 GOOD, BAD = DEFERRED.encode(), ON_ONE_BRANCH.encode()
@@ -89,7 +89,7 @@ def words(section):
     expect_unread(section, bench.run(["check", f"a={bench.at('a')}"]), bench.at("a"))
     # This is told before words that are wrong, and before one that names no package.
     for word in ([b"a=\xff"], [b"\xff=a"], [b"\xff"], [b"--cert=\xff"], ["-j", "0", b"a=\xff"], ["a", b"a=\xff"]):
-        expect(section, bench.run(["check", *word]), 2, b"", b"ctxvet: word is not UTF-8\n")
+        expect(section, bench.run(["check", *word]), 2, b"", line_of("WordNotText"))
     for name in (bench.at("x" * 256), bench.at("x/" * 2100), "/" + "x" * 100_000):
         expect_unread(section, bench.run(["check", f"a={name}"]), name)
         expect_unread(section, bench.run(["verify", "--cert", name, "a=a"]), name)

@@ -20,36 +20,57 @@ LONGEST_WAIT = 900
 # So many runs of a section that end otherwise than they may are told one by one.
 MOST_TOLD = 10
 
-# What a line on standard error may say after `ctxvet: `, and a word for the count. {} stands for a name.
-FAULTS = {
-    "bad package: {}": "bad package",
-    "cannot read: {}": "cannot read",
-    "cannot write: {}": "cannot write",
-    "two packages of one path: {}": "two packages",
-    "too many packages": "too many packages",
-    "certificate is not JSON": "not JSON",
-    "certificate has another shape": "another shape",
-    "certificate version not known": "version not known",
-    "certificate version too old: {}": "version too old",
-    "facts are not JSON": "facts not JSON",
-    "facts have another shape": "facts of another shape",
-    "facts version not known": "facts version not known",
-    "facts name a reserved path: {}": "reserved path",
-    "facts name a given package: {}": "given package",
-    "baseline is not JSON": "baseline not JSON",
-    "baseline has another shape": "baseline of another shape",
-    "unit is not JSON": "unit not JSON",
-    "unit has another shape": "unit of another shape",
-    "vetx is not JSON: {}": "vetx not JSON",
-    "vetx has another shape: {}": "vetx of another shape",
-    "vetx version not known: {}": "vetx version not known",
-    "vetx of another package: {}": "vetx of another package",
-    "vetx of another edition: {}": "vetx of another edition",
-    "vetx of other facts: {}": "vetx of other facts",
-    "a thread could not be started": "no thread",
-    "out of memory": "out of memory",
-    "word is not UTF-8": "word is not UTF-8",
+# Of each fault that a run may end with, by its name in the code, a word for the count.
+WORDS = {
+    "BadPackage": "bad package",
+    "CannotRead": "cannot read",
+    "CannotWrite": "cannot write",
+    "CannotWriteFile": "cannot write",
+    "TwoPackages": "two packages",
+    "TooManyPackages": "too many packages",
+    "CertificateNotJson": "not JSON",
+    "CertificateWrongShape": "another shape",
+    "CertificateWrongVersion": "version not known",
+    "CertificateTooOld": "version too old",
+    "FactsNotJson": "facts not JSON",
+    "FactsWrongShape": "facts of another shape",
+    "FactsWrongVersion": "facts version not known",
+    "FactsReserved": "reserved path",
+    "FactsNameGiven": "given package",
+    "BaselineNotJson": "baseline not JSON",
+    "BaselineWrongShape": "baseline of another shape",
+    "UnitNotJson": "unit not JSON",
+    "UnitWrongShape": "unit of another shape",
+    "VetxNotJson": "vetx not JSON",
+    "VetxWrongShape": "vetx of another shape",
+    "VetxWrongVersion": "vetx version not known",
+    "VetxOfAnotherPackage": "vetx of another package",
+    "VetxOfAnotherEdition": "vetx of another edition",
+    "VetxOfOtherFacts": "vetx of other facts",
+    "NoThread": "no thread",
+    "OutOfMemory": "out of memory",
+    "WordNotText": "word is not UTF-8",
 }
+
+
+def texts_of_faults():
+    """What the program says of each fault, by its name in the code. {} stands for a name."""
+    top = os.path.dirname(os.path.dirname(os.path.dirname(os.path.abspath(__file__))))
+    with open(os.path.join(top, "crates/folders/src/fault.rt"), encoding="utf-8") as file:
+        found = re.findall(r'#\[error\("(.*)"\)\]\s+(\w+)', file.read())
+    return {name: text.replace("{0}", "{}") for text, name in found}
+
+
+TEXTS_OF_FAULTS = texts_of_faults()
+# What a line on standard error may say after `ctxvet: `, and a word for the count.
+FAULTS = {TEXTS_OF_FAULTS[name]: word for name, word in WORDS.items()}
+
+
+def line_of(fault, name=""):
+    """The line of the fault of this name in the code, about the file or package of this name."""
+    return f"ctxvet: {TEXTS_OF_FAULTS[fault].format(name)}\n".encode()
+
+
 OUT_OF_MEMORY = b"ctxvet: out of memory\n"
 NO_THREAD = b"ctxvet: a thread could not be started\n"
 UNWRITTEN = b"ctxvet: cannot write: standard output\n"

@@ -7,7 +7,7 @@ import os
 import signal
 
 from hostility.refusals import CALM, OLD, OUT, Command, each_refused
-from hostility.runs import OUT_OF_MEMORY, UNWRITTEN, Section, is_one_fault
+from hostility.runs import OUT_OF_MEMORY, UNWRITTEN, Section, is_one_fault, line_of
 from hostility.worked import GIVEN, GIVER
 from hostility.writes import FULL, closed, left_beside, trouble_beside, unwritten_file
 
@@ -157,10 +157,9 @@ def closed_streams(section, unit):
 def cut_files(section):
     """The file of a unit, and the one that tells of its import, are cut at each byte: nothing is kept for others then."""
     bench = section.bench
-    of_import = b"vetx is not JSON: %s" % bench.at("a.vetx").encode()
-    for name, fault in (("b.cfg", b"unit is not JSON"), ("a.vetx", of_import)):
+    for name, fault in (("b.cfg", "UnitNotJson"), ("a.vetx", "VetxNotJson")):
         whole = bench.read(name)
-        wanted = (2, b"", b"ctxvet: %s\n" % fault)
+        wanted = (2, b"", line_of(fault, bench.at(name)))
         for length in range(len(whole)):
             bench.put(name, whole[:length])
             bench.put(OUT, OLD)

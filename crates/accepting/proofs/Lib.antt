@@ -1,6 +1,8 @@
 -- Laws for other crates: without directives nothing changes.
 pub mod KeptLines
 pub mod NoDirectives
+mod BodySizes
+mod LineLists
 mod GoneFindings
 mod KeyCounts
 mod ToldByBaseline

@@ -1,13 +1,15 @@
 -- Where no line has a directive, nothing is accepted and nothing is said of lines.
 use Rattle.std.proofs.Common.{◌≡◌, ◌∙◌, ℕ, Bool, true, false, if◌then◌else◌, List, [], ◌∷◌, None, map, refl, sym, ap}
 use Rattle.std.specs.Prelude.{filter}
+use Rattle.std.specs.Option.{option_or}
 use Rattle.lexer.specs.declared.source.Source.{Source}
-use Rattle.accepting.specs.ByLines.{Lines, SourceDirective, accepted_by_line, all_directives, by_lines, findings_by_lines, has_whole_fault, is_stale, on_line, stale_finding}
+use Rattle.accepting.specs.ByLines.{Lines, SourceDirective, accepted_by_line, all_directives, by_lines, by_reason, findings_by_lines, has_whole_fault, is_stale, lines_at, on_line, stale_finding}
 use Rattle.accepting.specs.Findings.{FindingEntry, FoundEntry, finding_view, found_view}
 use Rattle.accepting.specs.declared.findings.Finding.{Finding}
 use Rattle.accepting.specs.declared.findings.FoundPackage.{FoundPackage}
 use Rattle.accepting.specs.Merged.{merged}
 use Rattle.accepting.proofs.KeptLines.{none_there}
+use Rattle.accepting.proofs.LineLists.{none_gives}
 
 merged_none : (fs : List FindingEntry) → merged fs [] ≡ fs
 merged_none [] = refl
@@ -16,7 +18,11 @@ merged_none (f ∷ fs) = ap (λ l. f ∷ l) (merged_none fs)
 none_accepted : (sources : List Source) (fs : List FindingEntry)
     → map (accepted_by_line (λ file n. None) sources) fs ≡ fs
 none_accepted sources [] = refl
-none_accepted sources (f ∷ fs) = ap (λ l. f ∷ l) (none_accepted sources fs)
+none_accepted sources (f ∷ fs) =
+    λ i. record f {
+      accepted = option_or (by_reason (none_gives f.said.file f.said.code (lines_at sources f.said) i)) f.accepted;
+    }
+    ∷ none_accepted sources fs i
 
 module _ (sources : List Source) (fs : List FindingEntry) where
   abbrev by_these : Bool → Lines → List SourceDirective → List FindingEntry

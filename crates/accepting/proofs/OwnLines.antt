@@ -1,4 +1,4 @@
--- What lines accept is accepted for the reason that its own line gives.
+-- What lines accept is accepted for the reason that a line gives on which it is said.
 use Rattle.std.proofs.Common.{◌≡◌, ◌∙◌, ℕ, Bool, true, false, if◌then◌else◌, List, [], ◌∷◌, Option, None, Some, is_some, map, refl, sym, ap, true≢false}
 use Rattle.std.specs.Prelude.{filter}
 use Rattle.std.specs.List.{All}
@@ -6,10 +6,11 @@ use Rattle.std.specs.Option.{option_or, unwrap_or}
 use Rattle.std.proofs.lemmas.List.Elements.{All-cons, All-head, All-nil, All-tail}
 use Rattle.lexer.specs.declared.source.Source.{Source}
 use Rattle.report.specs.Entries.{Entry}
-use Rattle.accepting.specs.ByLines.{SourceDirective, accepted_by_line, all_directives, by_reason, findings_by_lines, has_whole_fault, is_stale, line_at, on_line, reason_for, stale_finding, stale_if}
+use Rattle.accepting.specs.ByLines.{SourceDirective, accepted_by_line, all_directives, by_reason, findings_by_lines, first_reason, has_whole_fault, is_stale, lines_at, on_line, stale_finding, stale_if}
 use Rattle.accepting.specs.Findings.{AcceptedBy, FindingEntry, line}
 use Rattle.accepting.specs.Laws.{IsAcceptedByItsLine, IsNotAccepted, LinesAcceptTheirOwn}
 use Rattle.accepting.specs.Merged.{merged, stands_before, told_before}
+use Rattle.accepting.proofs.LineLists.{given_in}
 
 -- Of each of two lists it holds, and so when they are merged
 
@@ -64,8 +65,11 @@ module _ (sources : List Source) where
 
   told_is : (f : FindingEntry) → IsNotAccepted f → IsAcceptedByItsLine sources (told f)
   told_is f none by e =
-      by_its_line (reason_for (on_line (all_directives sources)) f.said.file (line_at sources f.said) f.said.code)
-      f.accepted none by e
+      let lines = on_line (all_directives sources) in
+      let ns = lines_at sources f.said in
+      let its = by_its_line (first_reason lines f.said.file f.said.code ns) f.accepted none by e in
+      let one = given_in lines f.said.file f.said.code ns its.0 its.2 in
+      (its.0, one.0, its.1, one.1, one.2)
 
   told_are : (fs : List FindingEntry) → All IsNotAccepted fs → All (IsAcceptedByItsLine sources) (map told fs)
   told_are [] each = All-nil (IsAcceptedByItsLine sources)

@@ -1,8 +1,10 @@
 -- Which findings lines of their sources accept, and which lines accept nothing. A line with a directive in its form
 -- accepts findings with a code that it names, on that line, and, where it stands alone, on the line below. So can be
--- accepted what is said of uses and paths (LC03 to LC13). In a package with a fault as a whole no line is looked at.
+-- accepted what is said of uses and paths (LC03 to LC13). An LC16, which `verify` alone says of a body, is said on each
+-- line of the body, and accepted by each code of what certificates show (LC04, LC05, LC07, LC08 and LC10). In a package
+-- with a fault as a whole no line is looked at.
 use Rattle.std.specs.Prelude.{ℕ, ◌+◌, ◌-◌, ◌^◌, ◌==◌, Bool, true, false, ◌&&◌, ◌||◌, not, if◌then◌else◌, min, List, [], ◌∷◌, ◌++◌, Option, None, Some, slice_get, map, filter, is_some, codes}
-use Rattle.std.specs.List.{list_any}
+use Rattle.std.specs.List.{list_any, range_with_len}
 use Rattle.std.specs.Option.{option_or}
 use Rattle.directives.specs.Directives.{DirectiveView, directives_of}
 use Rattle.directives.specs.Forms.{names_code}
@@ -12,8 +14,9 @@ use Rattle.report.specs.Codes.{code_number}
 use Rattle.report.specs.Entries.{Entry}
 use Rattle.report.specs.ReportText.{bytes_of}
 use Rattle.report.specs.declared.codes.DiagnosticCode.{DiagnosticCode}
-use Rattle.report.specs.declared.codes.DiagnosticCode.TheVariants.{Unreadable, LeftOut, Discarded, Overwritten, NotCalled, CancelMisused, GroupIsLive, GroupOverwritten, GroupMisused, LeftToLiveGroup, BoundAgain, TooMany, ImportIsNotYes, ImportHasNoRank, TwoFunctions, AcceptsNothing}
+use Rattle.report.specs.declared.codes.DiagnosticCode.TheVariants.{Unreadable, LeftOut, Discarded, Overwritten, NotCalled, CancelMisused, GroupIsLive, GroupOverwritten, GroupMisused, LeftToLiveGroup, BoundAgain, TooMany, ImportIsNotYes, ImportHasNoRank, TwoFunctions, NoCertificate, AcceptsNothing}
 use Rattle.report.specs.declared.codes.TreeFault.TheVariants.{UnexpectedToken, TooDeep}
+use Rattle.accepting.specs.Bodies.{body_end}
 use Rattle.accepting.specs.Findings.{AcceptedBy, FindingEntry, FoundEntry, line}
 use Rattle.accepting.specs.Merged.{merged}
 
@@ -72,11 +75,22 @@ on_line (d ∷ ds) file n = if is_on file n d then Some d.directive else on_line
 
 -- For which reason a finding is accepted
 
+-- one of these codes is one of what certificates show
+abbrev pub names_certified : List ℕ → Bool
+names_certified named =
+    names_code named (codes "LC04")
+    || (names_code named (codes "LC05")
+    || (names_code named (codes "LC07") || (names_code named (codes "LC08") || names_code named (codes "LC10"))))
+
+-- these codes accept a finding with this one
+abbrev pub accepts_code : List ℕ → DiagnosticCode → Bool
+accepts_code named NoCertificate = names_certified named
+accepts_code named code = is_acceptable code && names_code named (code_number code)
+
 -- the reason of a directive, if it accepts this code
 abbrev pub reason_by : Option (List ℕ × List ℕ) → DiagnosticCode → Option (List ℕ)
 reason_by None code = None
-reason_by (Some (named, reason)) code =
-    if is_acceptable code && names_code named (code_number code) then Some reason else None
+reason_by (Some (named, reason)) code = if accepts_code named code then Some reason else None
 
 abbrev pub reason_of : Option DirectiveView → DiagnosticCode → Option (List ℕ)
 reason_of None code = None
@@ -98,27 +112,49 @@ reason_above lines file n code = reason_of (if_alone (lines file (n - 1))) code
 abbrev pub reason_for : Lines → (file line : ℕ) → DiagnosticCode → Option (List ℕ)
 reason_for lines file n code = option_or (own_reason lines file n code) (reason_above lines file n code)
 
+-- the first reason that one of these lines gives
+abbrev pub first_reason : Lines → (file : ℕ) → DiagnosticCode → (ns : List ℕ) → Option (List ℕ)
+first_reason lines file code [] = None
+first_reason lines file code (n ∷ ns) =
+    option_or (reason_for lines file n code) (first_reason lines file code ns)
+
 -- by a line for this reason, if there is one
 abbrev pub by_reason : Option (List ℕ) → Option AcceptedBy
 by_reason None = None
 by_reason (Some reason) = Some (line reason)
 
--- a finding on this line, accepted where a line accepts it
-abbrev pub accepted_on : Lines → (line : ℕ) → FindingEntry → FindingEntry
-accepted_on lines n f = record f {
-  accepted = option_or (by_reason (reason_for lines f.said.file n f.said.code)) f.accepted;
+-- a finding on these lines, accepted where a line accepts it
+abbrev pub accepted_on : Lines → (ns : List ℕ) → FindingEntry → FindingEntry
+accepted_on lines ns f = record f {
+  accepted = option_or (by_reason (first_reason lines f.said.file f.said.code ns)) f.accepted;
 }
 
--- the line on which something is said
+-- the line on which something is said: of an LC16, that of its body's `func`
 abbrev pub line_at : List Source → Entry → ℕ
 line_at sources said = line_of (bytes_of (slice_get sources said.file)) said.offset
 
+-- the last line: of an LC16, that of the brace that closes its body
+abbrev pub last_line_by : DiagnosticCode → List ℕ → (offset : ℕ) → ℕ
+last_line_by NoCertificate text offset = line_of text (body_end text offset)
+last_line_by code text offset = line_of text offset
+
+abbrev pub last_line : List Source → Entry → ℕ
+last_line sources said = last_line_by said.code (bytes_of (slice_get sources said.file)) said.offset
+
+abbrev pub lines_between : (first last : ℕ) → List ℕ
+lines_between first last = range_with_len first (last - first + 1)
+
+-- all lines on which something is said
+abbrev pub lines_at : List Source → Entry → List ℕ
+lines_at sources said = lines_between (line_at sources said) (last_line sources said)
+
 abbrev pub accepted_by_line : Lines → List Source → FindingEntry → FindingEntry
-accepted_by_line lines sources f = accepted_on lines (line_at sources f.said) f
+accepted_by_line lines sources f = accepted_on lines (lines_at sources f.said) f
 
 -- Lines that accept nothing
 
--- a finding with this code on the line `n` of the source `at` is accepted by the line `m` of the source `file`
+-- A finding with this code on the line `n` of the source `at` is accepted by the line `m` of the source `file`. (Of an
+-- LC16 only its first line counts here: where these lines are told, none is said.)
 abbrev pub accepts_on : Lines → (at n : ℕ) → DiagnosticCode → (file m : ℕ) → Bool
 accepts_on lines at n code file m =
     ((at == file) && ((n == m) && is_some (own_reason lines at n code)))

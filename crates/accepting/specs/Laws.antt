@@ -2,13 +2,13 @@
 -- lines that accept nothing. A line accepts what stands on it or straight below it, and the baseline no more than it
 -- has. By the first edition of the rules nothing is accepted.
 use Rattle.std.specs.Prelude.{ℕ, ◌≡◌, ◌≤◌, ◌↔◌, Bool, true, false, not, List, [], Option, None, Some, count_by, filter, flat_map, map}
-use Rattle.std.specs.List.{All}
+use Rattle.std.specs.List.{All, Contains}
 use Rattle.lexer.specs.declared.source.Source.{Source}
 use Rattle.report.specs.declared.codes.DiagnosticCode.{DiagnosticCode}
 use Rattle.report.specs.declared.codes.DiagnosticCode.TheVariants.{AcceptsNothing}
 use Rattle.report.specs.declared.codes.Wording.TheVariants.{First}
 use Rattle.accepting.specs.ByBaseline.{Key, is_key, key_of, by_baseline}
-use Rattle.accepting.specs.ByLines.{all_directives, by_lines, line_at, on_line, reason_for}
+use Rattle.accepting.specs.ByLines.{all_directives, by_lines, lines_at, on_line, reason_for}
 use Rattle.accepting.specs.Findings.{AcceptedBy, FindingEntry, FoundEntry, line, baseline, is_accepted, verdict_of}
 use Rattle.accepting.specs.Found.{found_in}
 use Rattle.accepting.specs.declared.findings.Verdict.TheVariants.{Yes, Accepted}
@@ -66,12 +66,15 @@ FirstEditionAcceptsNothing =
 abbrev pub IsNotAccepted : FindingEntry → Type 0
 IsNotAccepted f = is_accepted f ≡ false
 
--- where the finding is accepted, it is by a line, for the reason that this line gives for it
+-- Where the finding is accepted, it is by a line on which it is said, for the reason that this line gives for it. That
+-- is the line of its place, and for an LC16 each line of its body.
 abbrev pub IsAcceptedByItsLine : List Source → FindingEntry → Type 0
 IsAcceptedByItsLine sources f = (by : AcceptedBy) → f.accepted ≡ Some by
     → (reason : List ℕ)
+    × (n : ℕ)
     × (by ≡ line reason)
-    × (reason_for (on_line (all_directives sources)) f.said.file (line_at sources f.said) f.said.code ≡ Some reason)
+    × Contains (lines_at sources f.said) n
+    × (reason_for (on_line (all_directives sources)) f.said.file n f.said.code ≡ Some reason)
 
 abbrev pub LinesAcceptTheirOwn : Type 0
 LinesAcceptTheirOwn = (tells_stale : Bool) (p : FoundEntry) → All IsNotAccepted p.findings

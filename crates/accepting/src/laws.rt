@@ -7,7 +7,7 @@ pub fn nothing_is_lost()
     ensures { NothingIsLost }
 {}
 
-/// What lines accept, each for its reason, stands on the line itself, or straight below it where the line has no code.
+/// What lines accept, each for its reason, is said on the line itself, or straight below it where the line has no code.
 pub fn lines_accept_their_own()
     ensures { LinesAcceptTheirOwn }
 {}

@@ -1,14 +1,16 @@
 //! Which findings of a report are accepted: by lines of their sources, or since they stand in the report of an earlier
-//! run; and which lines accept nothing. It looks at bytes of lines and at what is said of packages alone.
+//! run; and which lines accept nothing. It looks at bytes of sources and at what is said of packages alone.
 #![tactic(auto)]
 
 mod acceptable;
 mod baseline;
+mod bodies;
 mod directive_lines;
 mod findings;
 mod found_packages;
 mod gone_findings;
 mod keys;
+mod last_lines;
 mod laws;
 mod line_reasons;
 mod lines;

@@ -2,7 +2,7 @@
 
 ghost use Rattle.std.specs.Prelude.{◌≡◌, option_map};
 ghost use Rattle.directives.specs.Directives.{directive_view};
-ghost use Rattle.accepting.specs.ByLines.{accepted_on, if_alone, own_reason, reason_above, reason_for, reason_of};
+ghost use Rattle.accepting.specs.ByLines.{accepted_on, accepts_code, first_reason, if_alone, lines_between, names_certified, own_reason, reason_above, reason_for, reason_of};
 ghost use Rattle.accepting.specs.Findings.{finding_view};
 ghost use Rattle.accepting.specs.LinesKept.{lines_of, text_of};
 
@@ -12,12 +12,32 @@ use crate::findings::{Acceptance, Finding};
 use directives::{Directive, names_code};
 use report::DiagnosticCode;
 
+/// Whether one of these codes is one of what certificates show.
+fn names_certified(named: &[u8]) -> bool
+    ensures { result ≡ names_certified named.now }
+{
+    names_code(named, "LC04")
+        || (names_code(named, "LC05")
+            || (names_code(named, "LC07")
+                || (names_code(named, "LC08") || names_code(named, "LC10"))))
+}
+
+/// Whether these codes accept a finding with this one.
+fn accepts_code(named: &[u8], code: DiagnosticCode) -> bool
+    ensures { result ≡ accepts_code named.now code }
+{
+    match code {
+        DiagnosticCode::NoCertificate => names_certified(named),
+        _ => is_acceptable(code) && names_code(named, code.number()),
+    }
+}
+
 /// The reason of a directive, if it accepts this code.
 fn reason_of<'a>(directive: Option<Directive<'a>>, code: DiagnosticCode) -> Option<&'a [u8]>
     ensures { option_map text_of result ≡ reason_of (option_map directive_view directive.entry) code }
 {
     let accepts = directive?.accepts?;
-    if is_acceptable(code) && names_code(accepts.codes, code.number()) {
+    if accepts_code(accepts.codes, code) {
         Some(accepts.reason)
     } else {
         None
@@ -71,20 +91,43 @@ fn reason_for<'a>(
     }
 }
 
-/// The finding, which stands on this line, accepted where a line accepts it.
+/// The first reason that one of the lines from the first to the last gives.
+fn first_reason<'a>(
+    lines: &DirectiveLines<'a>,
+    file: usize,
+    first: usize,
+    last: usize,
+    code: DiagnosticCode,
+) -> Option<&'a [u8]>
+    ensures { option_map text_of result
+        ≡ first_reason (lines_of lines.now) file code (lines_between first last) }
+{
+    let mut line = first;
+    'each: while line < last {
+        match reason_for(lines, file, line, code) {
+            Some(reason) => return Some(reason),
+            None => line += 1,
+        }
+    }
+    reason_for(lines, file, line, code)
+}
+
+/// The finding, which stands on the lines from the first to the last, accepted where a line accepts it.
 pub(crate) fn accepted_on<'a>(
     lines: &DirectiveLines<'a>,
-    line: usize,
+    first: usize,
+    last: usize,
     finding: Finding<'a>,
 ) -> Finding<'a>
-    ensures { finding_view result ≡ accepted_on (lines_of lines.now) line (finding_view finding.entry) }
+    ensures { finding_view result
+        ≡ accepted_on (lines_of lines.now) (lines_between first last) (finding_view finding.entry) }
 {
     let Finding {
         diagnostic,
         notes,
         acceptance,
     } = finding;
-    match reason_for(lines, diagnostic.file, line, diagnostic.code) {
+    match first_reason(lines, diagnostic.file, first, last, diagnostic.code) {
         Some(reason) => Finding {
             diagnostic,
             notes,

@@ -9,6 +9,7 @@ ghost use Rattle.accepting.specs.Merged.{merged, stands_before, told_before};
 
 use crate::directive_lines::DirectiveLines;
 use crate::findings::Finding;
+use crate::last_lines::last_line;
 use crate::line_reasons::accepted_on;
 use lexer::Source;
 use report::{Diagnostic, first_byte, moved};
@@ -97,7 +98,8 @@ pub(crate) fn merged<'a>(
         let said = finding.diagnostic;
         cursor = moved(cursor, sources, said.file, said.offset as usize);
         passed = add_before(alloc, &mut told, stale, passed, said)?;
-        told.push(accepted_on(lines, cursor.place.line, finding))?;
+        let last = last_line(sources, cursor, said);
+        told.push(accepted_on(lines, cursor.place.line, last, finding))?;
     }
     let (_, left) = stale.split_at(passed);
     add_all(alloc, &mut told, left)?;

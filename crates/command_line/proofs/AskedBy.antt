@@ -21,6 +21,7 @@ module _ (words rest : List (List ℕ)) (command : List ℕ) (kept : Kept) (is :
     are.whys,
     are.accepted,
     are.quiet,
+    are.without_library,
     are.packages,
   ) refl
 

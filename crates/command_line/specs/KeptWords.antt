@@ -22,6 +22,7 @@ named_of kept = record {
   whys = texts_of kept.whys.items;
   accepted = texts_of kept.accepted.items;
   quiet = texts_of kept.quiet.items;
+  without_library = texts_of kept.without_library.items;
   packages = texts_of kept.packages.items;
 }
 
@@ -37,6 +38,7 @@ pub record AreKept (words : List (List ℕ)) (kept : Kept) : Type 0 where
   pub whys : texts_of kept.whys.items ≡ (named_by words).whys
   pub accepted : texts_of kept.accepted.items ≡ (named_by words).accepted
   pub quiet : texts_of kept.quiet.items ≡ (named_by words).quiet
+  pub without_library : texts_of kept.without_library.items ≡ (named_by words).without_library
   pub packages : texts_of kept.packages.items ≡ (named_by words).packages
 
 -- behind this word no word is an option; the value of an option is no such word
@@ -56,6 +58,7 @@ pub record IsKeptSo (kept : Kept) (left all : Named) : Type 0 where
   pub whys : texts_of kept.whys.items ++ left.whys ≡ all.whys
   pub accepted : texts_of kept.accepted.items ++ left.accepted ≡ all.accepted
   pub quiet : texts_of kept.quiet.items ++ left.quiet ≡ all.quiet
+  pub without_library : texts_of kept.without_library.items ++ left.without_library ≡ all.without_library
   pub packages : texts_of kept.packages.items ++ left.packages ≡ all.packages
 
 -- what `check` asks for in each of its forms

@@ -210,20 +210,20 @@ vet_call words =
 abbrev pub IsNoCall : List ℕ → Type 0
 IsNoCall word = (words : List (List ℕ)) → vet_call (word ∷ words) ≡ None
 
--- the flag as it is written with a value
+-- the flag as it is written, and the values that it can have
 abbrev pub flag_form : VetFlag → List ℕ
-flag_form EditionNumber = codes "-edition=N"
+flag_form EditionNumber = codes "-edition=N (N is 1 or 2)"
 flag_form Facts = codes "-facts=FILE"
-flag_form Json = codes "-json"
-flag_form Lines = codes "-c=N"
-flag_form Tests = codes "-tests"
-flag_form Reasons = codes "-why"
-flag_form Accepted = codes "-accepted"
+flag_form Json = codes "-json (true or false)"
+flag_form Lines = codes "-c=N (N is a number of lines)"
+flag_form Tests = codes "-tests (true or false)"
+flag_form Reasons = codes "-why (true or false)"
+flag_form Accepted = codes "-accepted (true or false)"
 flag_form Baseline = codes "-baseline=FILE"
-flag_form Quiet = codes "-quiet"
+flag_form Quiet = codes "-quiet (true or false)"
 
--- what is told of a value that its flag can't have, as of other wrong words
+-- what is told of a value that its flag can't have
 abbrev pub wrong_text : VetFlag → List ℕ → List ℕ
 wrong_text flag value =
-    codes "error: invalid value '" ++ (value ++ (codes "' for '" ++ (flag_form flag
-    ++ codes "'\n\nFor more information, try '--help'.\n")))
+    codes "ctxvet: invalid value '" ++ (value ++ (codes "' for " ++ (flag_form flag
+    ++ codes "\n")))

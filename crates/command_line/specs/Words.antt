@@ -14,7 +14,7 @@ use Rattle.workers.specs.Counts.{count_of}
 use Rattle.command_line.specs.declared.options.ValueOption.{ValueOption}
 use Rattle.command_line.specs.declared.options.ValueOption.TheVariants.{Certificates, Facts, Baseline, PackageList, ReportFormat, EditionNumber, WorkerCount}
 use Rattle.command_line.specs.declared.options.Switch.{Switch}
-use Rattle.command_line.specs.declared.options.Switch.TheVariants.{Reasons, Accepted, Quiet}
+use Rattle.command_line.specs.declared.options.Switch.TheVariants.{Reasons, Accepted, Quiet, WithoutLibrary}
 use Rattle.command_line.specs.declared.words.Asked.{Asked}
 use Rattle.command_line.specs.declared.words.Asked.TheVariants.{Check, Explain, Certify, Verify, Help, Wrong}
 use Rattle.command_line.specs.declared.words.CheckWords.{CheckWords}
@@ -78,17 +78,18 @@ option_in word =
     else baseline_option_in word
 
 -- the option without a value that this word is: the report tells why each finding stands there, accepted findings are
--- told too, or lines of packages without findings are left out
+-- told too, lines of packages without findings are left out, or what is known of Go's library is
 abbrev pub switch_of : List ℕ → Option Switch
 switch_of word =
     if bytes_eq word (codes "--why") then Some Reasons
     else if bytes_eq word (codes "--accepted") then Some Accepted
     else if bytes_eq word (codes "--quiet") then Some Quiet
+    else if bytes_eq word (codes "--no-std-facts") then Some WithoutLibrary
     else None
 
 -- what words behind a command name: files of certificates by `--cert`, files of declared facts by `--facts`, earlier
 -- reports by `--baseline`, lists of packages by `--packages`, formats by `--format`, editions by `--edition`, numbers
--- by `-j`, the words `--why`, `--accepted` and `--quiet`, and packages
+-- by `-j`, the words `--why`, `--accepted`, `--quiet` and `--no-std-facts`, and packages
 pub record Named : Type 0 where
   pub files : List (List ℕ)
   pub facts : List (List ℕ)
@@ -100,6 +101,7 @@ pub record Named : Type 0 where
   pub whys : List (List ℕ)
   pub accepted : List (List ℕ)
   pub quiet : List (List ℕ)
+  pub without_library : List (List ℕ)
   pub packages : List (List ℕ)
 
 abbrev pub only_packages : List (List ℕ) → Named
@@ -114,6 +116,7 @@ only_packages words = record {
   whys = [];
   accepted = [];
   quiet = [];
+  without_library = [];
   packages = words;
 }
 
@@ -132,6 +135,7 @@ abbrev pub with_switch : Switch → List ℕ → Named → Named
 with_switch Reasons word named = record named { whys = word ∷ named.whys }
 with_switch Accepted word named = record named { accepted = word ∷ named.accepted }
 with_switch Quiet word named = record named { quiet = word ∷ named.quiet }
+with_switch WithoutLibrary word named = record named { without_library = word ∷ named.without_library }
 
 abbrev pub with_package : List ℕ → Named → Named
 with_package word named = record named { packages = word ∷ named.packages }
@@ -213,12 +217,14 @@ option_texts None = []
 option_texts (Some t) = t.now ∷ []
 
 -- what is read for a report is what is named: at most one file of declared facts, at most one earlier report, at most
--- one list, the packages, and at most one edition, by which all of these are judged
+-- one list, the packages, and at most one edition, by which all of these are judged; and without what is known of Go's
+-- library where `--no-std-facts` stands there
 pub record AreSources (named : Named) (sources : Sources) : Type 0 where
   pub are_facts : named.facts ≡ option_texts sources.facts
   pub is_baseline : named.baselines ≡ option_texts sources.baseline
   pub is_list : named.lists ≡ option_texts sources.list
   pub is_edition : AreEdition named.editions sources.edition
+  pub is_without_library : AreSwitch named.without_library sources.without_library
   pub are_packages : named.packages ≡ texts_of sources.packages.items
 
 -- how a report is told is what is named: in at most one format; with accepted findings where `--accepted` stands there,

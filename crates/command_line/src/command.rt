@@ -39,7 +39,7 @@ accepted, else `no PATH`. This comment accepts findings LC05 on its line, and wh
 the line below:
   //ctxvet:accept LC05 lives as long as the process
 What a package imports is known where it is given too, and as far as it is declared in the file of
-facts; else it is taken as unknown.";
+facts or, in the second edition, known of Go's library; else it is taken as unknown.";
 
 const VERIFY: &str =
     "Judges packages by the certificates of an earlier check, and prints their report";
@@ -56,6 +56,9 @@ const IN: &str = "The file of certificates";
 
 const FACTS: &str =
     "The file of declared facts, as JSON: what is taken for true of functions of packages that are not given";
+
+const NO_LIBRARY: &str =
+    "Takes Go's own library as unknown where it is not given, also what the second edition knows of it";
 
 const WORKERS: &str =
     "How many threads read the files and judge the packages at most, from 1 to 64. The report is the same \
@@ -121,6 +124,7 @@ fn check_command<'a>(alloc: Global) -> Result<Command<'a>, AllocError> {
         .arg(file(alloc).value_name("OUT").help(OUT))?
         .arg(why_option(alloc)?)?
         .arg(facts_option(alloc))?
+        .arg(library_option(alloc))?
         .arg(baseline_option(alloc))?;
     report_options(alloc, check)
 }
@@ -131,7 +135,8 @@ fn verify_command<'a>(alloc: Global) -> Result<Command<'a>, AllocError> {
         .about(VERIFY)
         .after_help(AFTER_VERIFY)
         .arg(file(alloc).value_name("IN").help(IN).required(true))?
-        .arg(facts_option(alloc))?;
+        .arg(facts_option(alloc))?
+        .arg(library_option(alloc))?;
     report_options(alloc, verify)
 }
 
@@ -179,6 +184,14 @@ fn facts_option<'a>(alloc: Global) -> Arg<'a> {
         .value_name("FILE")
         .help(FACTS)
         .action(ArgAction::Set)
+}
+
+/// The option by which nothing is known of Go's library but what is given and declared.
+fn library_option<'a>(alloc: Global) -> Arg<'a> {
+    Arg::new(alloc, "no-std-facts")
+        .long("no-std-facts")
+        .help(NO_LIBRARY)
+        .action(ArgAction::SetTrue)
 }
 
 /// The option that names an earlier report.

@@ -25,6 +25,7 @@ pub struct Kept<'a> {
     pub whys: Vec<&'a str>,
     pub accepted: Vec<&'a str>,
     pub quiet: Vec<&'a str>,
+    pub without_library: Vec<&'a str>,
     pub packages: Vec<&'a str>,
 }
 
@@ -47,6 +48,7 @@ pub fn kept_words<'a, S: AsStr>(alloc: Global, words: &'a [S]) -> Result<Kept<'a
         whys: Vec::new(alloc),
         accepted: Vec::new(alloc),
         quiet: Vec::new(alloc),
+        without_library: Vec::new(alloc),
         packages: Vec::new(alloc),
     };
     let mut awaited = None;
@@ -123,6 +125,7 @@ fn keep_switch<'a>(switch: Switch, word: &'a str, kept: &mut Kept<'a>) -> Result
         Switch::Reasons => Ok(kept.whys.push(word)?),
         Switch::Accepted => Ok(kept.accepted.push(word)?),
         Switch::Quiet => Ok(kept.quiet.push(word)?),
+        Switch::WithoutLibrary => Ok(kept.without_library.push(word)?),
     }
 }
 

@@ -31,6 +31,8 @@ pub enum Switch {
     Accepted,
     /// `--quiet`: lines of packages without findings are left out.
     Quiet,
+    /// `--no-std-facts`: nothing is known of Go's library but what is given and declared.
+    WithoutLibrary,
 }
 
 /// The option that the word is, whose value is the word behind it.
@@ -66,6 +68,8 @@ pub fn switch_of(word: &str) -> Option<Switch>
         Some(Switch::Accepted)
     } else if word == "--quiet" {
         Some(Switch::Quiet)
+    } else if word == "--no-std-facts" {
+        Some(Switch::WithoutLibrary)
     } else {
         None
     }

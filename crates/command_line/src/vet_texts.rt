@@ -21,20 +21,20 @@ pub const VET_FLAGS: &str =
 ";
 
 impl VetFlag {
-    /// How it is written with a value.
+    /// How it is written, and which values it can have.
     fn form(self) -> &'static str
         ensures { result.now ≡ flag_form self }
     {
         match self {
-            VetFlag::EditionNumber => "-edition=N",
+            VetFlag::EditionNumber => "-edition=N (N is 1 or 2)",
             VetFlag::Facts => "-facts=FILE",
-            VetFlag::Json => "-json",
-            VetFlag::Lines => "-c=N",
-            VetFlag::Tests => "-tests",
-            VetFlag::Reasons => "-why",
-            VetFlag::Accepted => "-accepted",
+            VetFlag::Json => "-json (true or false)",
+            VetFlag::Lines => "-c=N (N is a number of lines)",
+            VetFlag::Tests => "-tests (true or false)",
+            VetFlag::Reasons => "-why (true or false)",
+            VetFlag::Accepted => "-accepted (true or false)",
             VetFlag::Baseline => "-baseline=FILE",
-            VetFlag::Quiet => "-quiet",
+            VetFlag::Quiet => "-quiet (true or false)",
         }
     }
 }
@@ -49,7 +49,5 @@ pub fn wrong_value_text(alloc: Global, wrong: &WrongValue) -> Result<String, All
 {
     let form = wrong.flag.form();
     let value = wrong.value;
-    format!(in alloc;
-        "error: invalid value '{value}' for '{form}'\n\nFor more information, try '--help'.\n"
-    )
+    format!(in alloc; "ctxvet: invalid value '{value}' for {form}\n")
 }

@@ -22,13 +22,14 @@ pub const VERIFY_WORD: &str = "verify";
 
 /// What is read for a report: the file of declared facts, the earlier report whose findings are accepted, and the list
 /// of packages, each if one is named, and the words of packages, `PATH=DIR` each. All packages are judged by this
-/// edition of the rules, if one is named.
+/// edition of the rules, if one is named, and perhaps without what is known of Go's library.
 #[derive(Debug, Drop)]
 pub struct Sources<'a> {
     pub facts: Option<&'a str>,
     pub baseline: Option<&'a str>,
     pub list: Option<&'a str>,
     pub edition: Option<Edition>,
+    pub without_library: bool,
     pub packages: Vec<&'a str>,
 }
 
@@ -211,6 +212,7 @@ fn sources_by<'a>(kept: Kept<'a>) -> Option<Sources<'a>>
         baseline: at_most_one(&kept.baselines)?,
         list: at_most_one(&kept.lists)?,
         edition: edition_by(at_most_one(&kept.editions)?)?,
+        without_library: is_asked_by(&kept.without_library)?,
         packages: kept.packages,
     })
 }

@@ -11,9 +11,10 @@ use Rattle.folders.specs.declared.fault.Fault.TheVariants.{BadPackage, BaselineN
 use Rattle.driver.specs.declared.input.FilesRead.{FilesRead}
 use Rattle.driver.specs.declared.packages.NamedPackage.{NamedPackage}
 use Rattle.driver.specs.BaselinesRead.{AreKnownBy}
-use Rattle.driver.specs.DeclaredFacts.{AreDeclaredBy}
 use Rattle.driver.specs.PackageLists.{IsReadSourcesFault}
-use Rattle.driver.specs.Packages.{edition_of_run, AddListed, AreListedBy, AreNamed, AreRead, AreReadFor}
+use Rattle.driver.specs.Editions.{edition_of_run}
+use Rattle.driver.specs.KnownPackages.{AreKnownBeside}
+use Rattle.driver.specs.Packages.{AddListed, AreListedBy, AreNamed, AreRead, AreReadFor}
 use Rattle.driver.specs.Faults.{HasBadSource, HasBadWord, IsCheckFault, IsGivenFault, IsSharedReportFault, IsWordsFault}
 
 -- whatever the fault is
@@ -48,18 +49,18 @@ module _ (sources : Sources) where
   read_words files outside given are =
       none_bad (texts_of sources.packages.items) are.are_given.packages are.are_given.are_named
 
-  -- what is declared, named, read and listed, one after the other
+  -- what is named, read and listed, one after the other, and what is known beside it
   pub read_for : (files : FilesRead) (outside : DeclaredPackages) (packages : List NamedPackage) (of_words given : List GivenPackage)
       (entries : List PackageEntry)
-      → AreDeclaredBy (option_texts sources.facts) files.facts outside
+      → AreKnownBeside sources files.facts given outside
       → AreKnownBy (option_texts sources.baseline) files.baseline
       → AreRead (edition_of_run sources) packages of_words
       → AreListedBy (option_texts sources.list) files.list entries
       → AddListed (edition_of_run sources) entries of_words given
       → AreNamed (texts_of sources.packages.items) packages
       → AreReadFor sources files outside given
-  read_for files outside packages of_words given entries declared known read listed added named = record {
-    are_declared = declared;
+  read_for files outside packages of_words given entries beside known read listed added named = record {
+    are_outside = beside;
     are_known = known;
     are_given = record {
       packages = packages;

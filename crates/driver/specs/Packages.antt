@@ -6,7 +6,6 @@ use Rattle.std.specs.List.{AllByRecursion, AllZip}
 use Rattle.command_line.specs.Words.{option_texts, texts_of}
 use Rattle.command_line.specs.declared.words.Sources.{Sources}
 use Rattle.tree.specs.declared.edition.Edition.{Edition}
-use Rattle.tree.specs.declared.edition.Edition.TheVariants.{First, Second}
 use Rattle.load.specs.declared.packages.GivenPackage.{GivenPackage}
 use Rattle.folders.specs.GoFiles.{AreSourcesOf}
 use Rattle.folders.specs.ListedFiles.{shown_name, AreFilesOf}
@@ -18,25 +17,10 @@ use Rattle.package_list.specs.ListTexts.{first_incomplete, AreListedIn}
 use Rattle.package_list.specs.ListedValues.{PackageEntry}
 use Rattle.declared_json.specs.declared.outside.DeclaredPackages.{DeclaredPackages}
 use Rattle.driver.specs.BaselinesRead.{AreKnownBy}
-use Rattle.driver.specs.DeclaredFacts.{AreDeclaredBy}
+use Rattle.driver.specs.Editions.{edition_of_run}
+use Rattle.driver.specs.KnownPackages.{AreKnownBeside}
 use Rattle.driver.specs.declared.input.FilesRead.{FilesRead}
 use Rattle.driver.specs.declared.packages.NamedPackage.{NamedPackage}
-
--- Editions
-
--- by this edition packages are judged: the one that words ask for, or else this one
-abbrev pub edition_or : Edition → Option Edition → Edition
-edition_or usual None = usual
-edition_or usual (Some asked) = asked
-
--- by the second edition where a list is named, and else by the first one, unless one is asked for
-abbrev pub usual_edition : List (List ℕ) → Edition
-usual_edition [] = First
-usual_edition (list ∷ lists) = Second
-
--- all packages of a run are judged by one edition
-abbrev pub edition_of_run : Sources → Edition
-edition_of_run sources = edition_or (usual_edition (option_texts sources.list)) sources.edition
 
 -- Packages of words
 
@@ -113,10 +97,10 @@ pub record AreGiven (sources : Sources) (list : Option ReadFile) (given : List G
   pub are_listed : AreListedBy (option_texts sources.list) list entries
   pub of_list : AddListed (edition_of_run sources) entries of_words given
 
--- What was read: the files that the words name beside those of packages, what these declare, and the packages. The
--- findings of an earlier run are among these files.
+-- What was read: the files that the words name beside those of packages, what is known by these of others than the
+-- given packages, and these. The findings of an earlier run are among these files.
 pub record AreReadFor (sources : Sources) (files : FilesRead) (outside : DeclaredPackages) (given : List GivenPackage)
     : Type 0 where
-  pub are_declared : AreDeclaredBy (option_texts sources.facts) files.facts outside
+  pub are_outside : AreKnownBeside sources files.facts given outside
   pub are_known : AreKnownBy (option_texts sources.baseline) files.baseline
   pub are_given : AreGiven sources files.list given

@@ -1,8 +1,9 @@
 -- What is read for a unit, once its file was: the declared facts, the findings of an earlier run, what is kept of the
 -- packages that it imports, its module, and its Go files. Which bytes a file has, no contract can say.
-use Rattle.std.specs.Prelude.{◌≡◌, ⊤, Option, string_bytes}
+use Rattle.std.specs.Prelude.{◌≡◌, ⊤, true, [], ◌∷◌, Option, string_bytes}
 use Rattle.command_line.specs.Words.{edition_number, option_texts}
 use Rattle.command_line.specs.declared.vet_told.UnitFlags.{UnitFlags}
+use Rattle.declared_json.specs.DeclaredPackages.{packages_of}
 use Rattle.declared_json.specs.declared.outside.DeclaredPackages.{DeclaredPackages}
 use Rattle.folders.specs.GoModules.{IsModulePath}
 use Rattle.folders.specs.ListedFiles.{AreFilesOf}
@@ -19,7 +20,8 @@ use Rattle.unit_reading.specs.UnitsTold.{without_suffix}
 use Rattle.driver.specs.BaselinesRead.{AreLocatedBy, HaveBaselineFault}
 use Rattle.driver.specs.DeclaredFacts.{AreDeclaredBy, HaveFactsFault}
 use Rattle.driver.specs.Digests.{digest_in}
-use Rattle.driver.specs.Packages.{edition_or}
+use Rattle.driver.specs.Editions.{edition_or}
+use Rattle.driver.specs.KnownPackages.{known_beside}
 use Rattle.driver.specs.declared.unit_input.UnitInput.{UnitInput}
 
 abbrev pub edition_of_unit : UnitFlags → Edition
@@ -31,9 +33,16 @@ pub record IsPackageOf (flags : UnitFlags) (unit : UnitEntry) (given : GivenPack
   pub is_edition : given.edition ≡ edition_of_unit flags
   pub are_files : AreFilesOf (picked_files flags.with_tests unit.folder unit.files) given.sources.items
 
+-- what is known of packages beside the unit's own: what is declared, by the second edition of others alone
+pub record AreKnownFor (flags : UnitFlags) (unit : UnitEntry) (input : UnitInput) : Type 0 where
+  pub declared : DeclaredPackages
+  pub are_declared : AreDeclaredBy (option_texts flags.facts) input.facts declared
+  pub are_known : packages_of input.outside
+      ≡ known_beside (edition_of_unit flags) true (without_suffix unit.path ∷ []) (packages_of declared)
+
 -- what is read for this unit, by these flags
 pub record IsInputOf (flags : UnitFlags) (unit : UnitEntry) (input : UnitInput) : Type 0 where
-  pub are_declared : AreDeclaredBy (option_texts flags.facts) input.facts input.outside
+  pub are_outside : AreKnownFor flags unit input
   pub is_digest : string_bytes input.digest ≡ digest_in input.facts
   pub are_known : AreLocatedBy (option_texts flags.baseline) input.baseline
   pub are_told : AreTold (edition_number (edition_of_unit flags)) (digest_in input.facts) unit input.told.items

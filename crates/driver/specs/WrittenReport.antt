@@ -25,7 +25,8 @@ use Rattle.judge.specs.declared.explained.ExplainedReport.{ExplainedReport}
 use Rattle.judge.specs.Verified.{IsVerifiedReport}
 use Rattle.judge.specs.Reports.{IsReport, Report}
 use Rattle.driver.specs.Certificates.{StandIn}
-use Rattle.driver.specs.Packages.{edition_of_run, AreReadFor}
+use Rattle.driver.specs.Editions.{edition_of_run}
+use Rattle.driver.specs.Packages.{AreReadFor}
 use Rattle.driver.specs.declared.input.FilesRead.{FilesRead}
 use Rattle.driver.specs.Faults.{IsRunFault, LeavesUnwritten}
 use Rattle.driver.specs.Printing.{AppendsFront}

@@ -73,7 +73,7 @@ pub fn certify<
         files,
         outside,
         given,
-        empty,
+        noted,
     } = input;
     let known = &files.baseline.findings;
     let settings = Settings {
@@ -82,7 +82,7 @@ pub fn certify<
     };
     let told = certified_report_by_workers::<R, L>(rt, given, outside, settings)?;
     print(out, &told.report.text, refusals)?;
-    note(rt.alloc(), &files, &empty, told.report.counts, err);
+    note(rt.alloc(), &files, &noted, told.report.counts, err);
     let status = Status::of_verdict(told.report.passes);
     let file = write_file(rt, file, told.certificates)?;
     Ok(Certified {

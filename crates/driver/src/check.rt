@@ -59,7 +59,7 @@ pub fn check<
         files,
         outside,
         given,
-        empty,
+        noted,
     } = input;
     let known = &files.baseline.findings;
     let settings = Settings {
@@ -68,7 +68,7 @@ pub fn check<
     };
     let report = report_by_workers::<R, L>(rt, given, outside, settings)?;
     print(out, &report.text, refusals)?;
-    note(rt.alloc(), &files, &empty, report.counts, err);
+    note(rt.alloc(), &files, &noted, report.counts, err);
     Ok(Checked {
         status: Status::of_verdict(report.passes),
         files,

@@ -55,7 +55,7 @@ pub fn explain<
         files,
         outside,
         given,
-        empty,
+        noted,
     } = input;
     let known = &files.baseline.findings;
     let settings = Settings {
@@ -64,7 +64,7 @@ pub fn explain<
     };
     let told = explained_report_by_workers::<R, L>(rt, given, outside, settings)?;
     print(out, &told.text, refusals)?;
-    note(rt.alloc(), &files, &empty, told.report.counts, err);
+    note(rt.alloc(), &files, &noted, told.report.counts, err);
     Ok(Checked {
         status: Status::of_verdict(told.report.passes),
         files,

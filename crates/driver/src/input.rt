@@ -3,13 +3,15 @@
 ghost use Rattle.std.specs.Prelude.{◌≡◌, ℕ, false, true, IfErr, IfOk};
 ghost use Rattle.command_line.specs.Words.{option_texts, texts_of};
 ghost use Rattle.driver.specs.Faults.{is_of_bytes, is_of_output, IsCheckFault};
-ghost use Rattle.driver.specs.Packages.{edition_of_run, edition_or, usual_edition, AreNamed, AreReadFor};
+ghost use Rattle.driver.specs.Editions.{edition_of_run, edition_or, usual_edition};
+ghost use Rattle.driver.specs.Packages.{AreNamed, AreReadFor};
 ghost use Rattle.driver.specs.PackageLists.{IsReadSourcesFault};
 
 use crate::baseline_input::{BaselineRead, read_baseline};
 use crate::facts_input::read_facts;
 use crate::list_input::read_packages_of_list;
 use crate::listed_packages::add_listed;
+use crate::outside::{known_beside, passed_over};
 use crate::packages::{FoldersAsked, NamedPackage, all_named, read_packages};
 use command_line::Sources;
 use declared_json::DeclaredPackages;
@@ -27,13 +29,21 @@ pub struct FilesRead<'a> {
     pub list: Option<ReadFile<'a>>,
 }
 
-/// What was read: these files, what is declared, the packages, and the folders that have no Go file, escaped.
+/// What was read: these files, the packages, what is known of others, and what stands in notes.
 #[derive(Drop)]
 pub struct Input<'a> {
     pub files: FilesRead<'a>,
     pub outside: DeclaredPackages,
     pub given: Vec<GivenPackage>,
+    pub noted: Noted,
+}
+
+/// What stands in notes, escaped: the folders that have no Go file, and the given packages of which something is
+/// declared that is passed over.
+#[derive(Drop)]
+pub struct Noted {
     pub empty: Vec<String>,
+    pub passed_over: Vec<String>,
 }
 
 /// The edition by which packages are judged: the one that is asked for, or else this one.
@@ -65,7 +75,8 @@ pub fn edition_of_run(sources: &Sources<'_>) -> Edition
 
 /// Reads the file of declared facts, if one is named, after it the report of an earlier run and the list of packages,
 /// if these are named, and then the folders of the packages that words name, which are these, and the files of the
-/// listed ones. All are judged by one edition.
+/// listed ones. All are judged by one edition. Of others is known what is declared, and by the second edition what is
+/// known of Go's library.
 ///
 /// # Errors
 ///
@@ -90,15 +101,27 @@ pub fn read_input<'a, R: Files + AllocGlobal + Surroundings>(
     let edition = edition_of_run(sources);
     let mut given = read_packages(rt, edition, packages, &mut empty, folders)?;
     add_listed(rt, edition, &listed.packages, &mut given, &mut empty)?;
+    let passed = passed_over(rt.alloc(), edition, &declared.outside, &given)?;
+    let without_library = sources.without_library;
+    let outside = known_beside(
+        rt.alloc(),
+        edition,
+        without_library,
+        declared.outside,
+        &given,
+    )?;
     Ok(Input {
         files: FilesRead {
             facts: declared.file,
             baseline,
             list: listed.file,
         },
-        outside: declared.outside,
+        outside,
         given,
-        empty,
+        noted: Noted {
+            empty,
+            passed_over: passed,
+        },
     })
 }
 

@@ -13,6 +13,7 @@ mod input;
 mod list_input;
 mod listed_packages;
 mod notes;
+mod outside;
 mod packages;
 mod printing;
 mod program;

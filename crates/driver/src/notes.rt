@@ -1,6 +1,6 @@
 //! Notes on standard error, which change no answer.
 
-use crate::input::FilesRead;
+use crate::input::{FilesRead, Noted};
 use judge::Counts;
 use std::alloc::{AllocError, Global};
 use std::io::Write;
@@ -8,19 +8,27 @@ use std::io::Write;
 /// The program's name, with which the lines of its notes and faults begin.
 pub const PROGRAM: &str = "ctxvet";
 
-/// Notes which folders have no Go file; where a list of packages was read, how many are yes and how many findings there
-/// are; and how many findings of an earlier run are gone. Where standard error fails, or memory is refused for a note,
-/// nobody is left to be told.
+/// Notes which folders have no Go file, and of which given packages something is declared; where a list of packages was
+/// read, how many are yes and how many findings there are; and how many findings of an earlier run are gone. Where
+/// standard error fails, or memory is refused for a note, nobody is left to be told.
 pub fn note<E: Write>(
     alloc: Global,
     files: &FilesRead<'_>,
-    empty: &[String],
+    noted: &Noted,
     counts: Counts,
     err: &mut E,
 ) {
-    for folder in empty {
+    for folder in &noted.empty {
         tell(
             format!(in alloc; "{PROGRAM}: note: no Go files in {folder}\n"),
+            err,
+        );
+    }
+    for path in &noted.passed_over {
+        tell(
+            format!(in alloc;
+                "{PROGRAM}: note: facts of a given package are passed over: {path}\n"
+            ),
             err,
         );
     }

@@ -1,7 +1,7 @@
 //! How a report is told, by the words of a run.
 
 ghost use Rattle.std.specs.Prelude.{◌≡◌};
-ghost use Rattle.driver.specs.Packages.{edition_of_run};
+ghost use Rattle.driver.specs.Editions.{edition_of_run};
 ghost use Rattle.driver.specs.Tellings.{wording_of, IsTellingOf};
 
 use baseline_json::BaselineFinding;

@@ -10,6 +10,7 @@ use crate::baseline_input::{BaselineRead, read_located_baseline};
 use crate::digests::digest_in;
 use crate::facts_input::read_facts;
 use crate::input::edition_or;
+use crate::outside::known_beside_paths;
 use command_line::UnitFlags;
 use declared_json::DeclaredPackages;
 use folders::{Fault, ReadFile, module_above, picked_files, read_files};
@@ -19,8 +20,9 @@ use tree::Edition;
 use unit_config::Unit;
 use unit_reading::{JudgedBy, ToldImport, read_told, without_suffix};
 
-/// What was read for a unit: the file of declared facts, if one is named, what is declared, and the digest of that
-/// file; the findings of an earlier run; what is kept of imported packages; the path of its module; and its package.
+/// What was read for a unit: the file of declared facts, if one is named, what it declares of other packages, and the
+/// digest of that file; the findings of an earlier run; what is kept of imported packages; the path of its module; and
+/// its package.
 #[derive(Drop)]
 pub struct UnitInput<'u> {
     pub facts: Option<ReadFile<'u>>,
@@ -61,9 +63,11 @@ pub fn read_unit_input<'u, R: Files + AllocGlobal>(
     let told = read_told(rt, unit, by)?;
     let module_path = module_above(rt, unit.folder.as_str())?;
     let given = read_package(rt, flags, edition, unit)?;
+    let own = without_suffix(unit.path.as_str());
+    let outside = known_beside_paths(rt.alloc(), edition, true, declared.outside, &[own])?;
     Ok(UnitInput {
         facts: declared.file,
-        outside: declared.outside,
+        outside,
         digest,
         baseline,
         told,

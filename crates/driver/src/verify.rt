@@ -88,13 +88,13 @@ pub fn verify<'a, R: Files + Surroundings + AllocGlobal, W: Write, E: Write, L: 
         files,
         outside,
         given,
-        empty,
+        noted,
     } = input;
     let known = &files.baseline.findings;
     let telling = telling_of(edition_of_run(&asked.sources), asked.report, false, known);
     let report = verified_report_of::<L>(rt.alloc(), given, outside, &certificates, telling)?;
     print(out, &report.text, refusals)?;
-    note(rt.alloc(), &files, &empty, report.counts, err);
+    note(rt.alloc(), &files, &noted, report.counts, err);
     Ok(Verified {
         status: Status::of_verdict(report.passes),
         files,

@@ -11,10 +11,10 @@ use thiserror::Error;
 #[derive(Debug, PartialEq, Eq, Drop, Error)]
 pub enum Fault {
     /// A word of the command line is not UTF-8.
-    #[error("word is not UTF-8")]
+    #[error("an argument is not UTF-8: rename the file or folder that it names")]
     WordNotText,
     /// The words are none that the program of this name understands.
-    #[error("wrong words: {0} --help says which there are")]
+    #[error("unknown arguments: see {0} --help")]
     WrongWords(&'static str),
     /// The word has no `=`, nothing before or after its first one, or a control code before it; or the path of a listed
     /// package or of a unit has a control code. Escaped.
@@ -72,32 +72,32 @@ pub enum Fault {
     #[error("package list is incomplete: {0}")]
     ListIncomplete(String),
     /// The file of a unit is not UTF-8, or no JSON.
-    #[error("unit is not JSON")]
+    #[error("the .cfg file is not JSON: pass the file that go vet, or a build rule, wrote for ctxvet")]
     UnitNotJson,
     /// The file of a unit is JSON, but tells of no unit as the go command does.
-    #[error("unit has another shape")]
+    #[error("unexpected JSON structure of the .cfg file: pass the file that go vet, or a build rule, wrote for ctxvet")]
     UnitWrongShape,
     /// The file of this name, which should tell of an imported package, is not UTF-8, or no JSON. Escaped.
-    #[error("vetx is not JSON: {0}")]
+    #[error("{0}: vetx file is not JSON: judge its package again (go vet: go clean -cache)")]
     VetxNotJson(String),
     /// That file is JSON, but tells of no package in a version that is known. Escaped.
-    #[error("vetx has another shape: {0}")]
+    #[error("{0}: unexpected JSON structure of the vetx file: judge its package again (go vet: go clean -cache)")]
     VetxWrongShape(String),
     /// That file has a version that is not known. Escaped.
-    #[error("vetx version not known: {0}")]
+    #[error("{0}: vetx file of another ctxvet: judge all packages with the same one (go vet: go clean -cache)")]
     VetxWrongVersion(String),
     /// That file tells of another package than the one that is imported. Escaped.
-    #[error("vetx of another package: {0}")]
+    #[error("{0}: vetx file of another package than the one imported: correct PackageVetx in the .cfg file")]
     VetxOfAnotherPackage(String),
     /// That file tells of a package that was judged by another edition. Escaped.
-    #[error("vetx of another edition: {0}")]
+    #[error("{0}: vetx file of another edition: judge all packages by the same -edition")]
     VetxOfAnotherEdition(String),
     /// That file tells of a package that was judged beside other declared facts. Escaped.
-    #[error("vetx of other facts: {0}")]
+    #[error("{0}: vetx file of other declared facts: use the same -facts for all packages; rename a changed file")]
     VetxOfOtherFacts(String),
     /// A number of a function of the package of this path is not below 2^32: a position, or how many results it has. So
     /// nothing can be kept of it for those that import it. Escaped.
-    #[error("function too large to be kept: {0}")]
+    #[error("{0}: a function's position or number of results is 2^32 or more: split the file")]
     FunctionTooLarge(String),
     /// Two packages have this path.
     #[error("two packages of one path: {0}")]

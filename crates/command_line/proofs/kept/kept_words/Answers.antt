@@ -51,5 +51,6 @@ returns-then-ends_options g c =
       whys = sym (append-nil (texts_of kept.whys.items)) ∙ so.whys;
       accepted = sym (append-nil (texts_of kept.accepted.items)) ∙ so.accepted;
       quiet = sym (append-nil (texts_of kept.quiet.items)) ∙ so.quiet;
+      without_library = sym (append-nil (texts_of kept.without_library.items)) ∙ so.without_library;
       packages = added ∙ so.packages;
     }

@@ -6,7 +6,7 @@ use Rattle.declared_json.specs.DeclaredPackages.{packages_of}
 use Rattle.workers.specs.Counts.{count_of}
 use Rattle.unit_reading.proofs.HandedOn.{handed_on}
 use Rattle.driver.specs.Faults.{is_of_output, IsCertifyFault}
-use Rattle.driver.specs.Packages.{edition_of_run}
+use Rattle.driver.specs.Editions.{edition_of_run}
 use Rattle.driver.specs.Printing.{AppendsFront}
 use Rattle.driver.proofs.FaultsOfCommands.{none_refused, of_check}
 use Rattle.driver.proofs.ToldSo.{told_so}

@@ -4,7 +4,7 @@ use Rattle.folders.specs.declared.fault.Fault.TheVariants.{CannotWrite}
 use Rattle.workers.specs.Counts.{count_of}
 use Rattle.unit_reading.proofs.HandedOn.{handed_on}
 use Rattle.driver.specs.Faults.{is_of_output, IsCheckFault}
-use Rattle.driver.specs.Packages.{edition_of_run}
+use Rattle.driver.specs.Editions.{edition_of_run}
 use Rattle.driver.specs.Printing.{AppendsFront}
 use Rattle.driver.proofs.FaultsOfCommands.{none_refused}
 use Rattle.driver.proofs.ToldSo.{told_so}

@@ -29,7 +29,11 @@ returns-clause-read g c =
     let edition : c.number_of.result ≡ edition_number (edition_of_unit flags) = search rules in
     let digest : c.as_str.result.now ≡ digest_in declared.file = search rules in
     record {
-      are_declared = c.in_ok-declared.ensures.declared;
+      are_outside = record {
+        declared = declared.outside;
+        are_declared = c.in_ok-declared.ensures.declared;
+        are_known = search rules;
+      };
       is_digest = c.in_ok-digest.ensures;
       are_known = c.in_ok-baseline.ensures.known;
       are_told =

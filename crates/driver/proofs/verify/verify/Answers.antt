@@ -3,7 +3,7 @@ use Rattle.std.specs.Io.KnownBytes.{Appends}
 use Rattle.folders.specs.declared.fault.Fault.TheVariants.{CannotWrite}
 use Rattle.unit_reading.proofs.HandedOn.{handed_on}
 use Rattle.driver.specs.Faults.{IsVerificationFault}
-use Rattle.driver.specs.Packages.{edition_of_run}
+use Rattle.driver.specs.Editions.{edition_of_run}
 use Rattle.driver.specs.Printing.{AppendsFront}
 use Rattle.driver.proofs.FaultsOfCommands.{of_verdict}
 use Rattle.driver.proofs.ToldSo.{told_so}
