@@ -1,4 +1,4 @@
-"""What the gate costs by crates.txt and the table of docs/GATE.md alone: what `bench/gate --cost` prints.
+"""What the gate costs by crates.txt and the table of bench/costs.txt alone: what `bench/gate --cost` prints.
 
 A change of a crate costs the proofs, tests and edits of that crate and of all that stand on it; a commit that changes
 several crates costs those of each once.

@@ -22,6 +22,8 @@ def each(item, **more):
 
 
 TEXT = {"type": "string"}
+# https://semver.org, as GitHub reads it: the schema takes any string.
+VERSION = {"type": "string", "pattern": r"^(0|[1-9]\d*)\.(0|[1-9]\d*)\.(0|[1-9]\d*)([-+][0-9A-Za-z.+-]+)?$"}
 ADDRESS = {"type": "string", "format": "uri"}
 NUMBER = {"type": "integer", "minimum": 1}
 INDEX = {"type": "integer", "minimum": -1}
@@ -84,7 +86,7 @@ COMPONENT = struct(
     {
         "name": TEXT,
         "version": TEXT,
-        "semanticVersion": TEXT,
+        "semanticVersion": VERSION,
         "informationUri": ADDRESS,
         "rules": each(RULE, uniqueItems=True),
     },

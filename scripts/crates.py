@@ -17,7 +17,7 @@ ROOT = os.path.dirname(os.path.dirname(os.path.abspath(__file__)))
 # What a proof reads of a crate, and what else its run reads.
 PROVED = ("src", "specs", "proofs")
 RUN_ON = ("args", "data", "status", "stdin", "stdout")
-# Seconds that a proof takes which docs/GATE.md doesn't know.
+# Seconds that a proof takes which bench/costs.txt doesn't know.
 USUAL_COST = 90
 # The free memory, in kB, from which on rt shares the processors out by itself (see rt_jobs).
 PLENTY = 20_000_000
@@ -80,10 +80,10 @@ def copy(names, room):
 
 
 def costs():
-    """For each crate the processor seconds of its proof, of its tests and of its must-fail edits, as the table of
-    docs/GATE.md has them."""
+    """For each crate the processor seconds of its proof, of its tests and of its must-fail edits, as
+    bench/costs.txt has them."""
     try:
-        with open(f"{ROOT}/docs/GATE.md", encoding="utf-8") as lines:
+        with open(f"{ROOT}/bench/costs.txt", encoding="utf-8") as lines:
             rows = re.findall(r"^(\w+) +(\d+) +(\d+) +(\d+)(?: +\d+){2}$", lines.read(), re.M)
     except OSError:
         rows = []

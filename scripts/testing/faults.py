@@ -1,7 +1,7 @@
 """What `fault WORDS` in a case does: the system fails the next run, as WORDS say. They are the settings of the shim of
 bench/hostile, which is loaded before the C library (bench/hostility/shim.c says what there is).
 
-Where there is no C compiler to build it, the case is left out.
+Where there is no C compiler to build it, the case is left out; so it is with a program that loads no library.
 """
 import functools
 import os
@@ -9,7 +9,7 @@ import sys
 import tempfile
 import threading
 
-from testing import reading
+from testing import elf, reading
 
 sys.path.append(os.path.join(reading.ROOT, "bench"))
 from hostility import shim
@@ -34,8 +34,10 @@ def built_shim():
     return shim.built(folder_of_shim().name)
 
 
-def variables_for(words):
-    """The variables of the environment with which a run fails so."""
+def variables_for(program, words):
+    """The variables of the environment with which a run of this program fails so."""
+    if elf.is_static(program):
+        raise Skipped("it preloads a library, and this program loads none")
     with BUILDING:
         path = built_shim()
     if path is None:

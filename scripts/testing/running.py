@@ -232,7 +232,7 @@ def put_zeros(room, name, count):
 
 
 def fail_next(room, *words):
-    room.faults = faults.variables_for(words)
+    room.faults = faults.variables_for(room.program, words)
 
 
 VERBS = {

@@ -1,15 +1,15 @@
 -- A value says findings exactly where it has the members that say them.
-use Rattle.std.proofs.Common.{◌≡◌, ◌==◌, ℕ, ◌++◌, Bool, true, false, List, [], ◌∷◌, Option, Some, None, if◌then◌else◌, option_and_then, option_map, codes, refl, sym, ap, subst, ◌∙◌}
-use Rattle.std.proofs.lemmas.Bool.{eqb-true}
+use Rattle.std.proofs.Common.{◌≡◌, ◌==◌, ◌⊎◌, inl, inr, ℕ, ◌++◌, Bool, true, false, List, [], ◌∷◌, Option, Some, None, if◌then◌else◌, option_and_then, option_map, codes, refl, sym, ap, subst, ◌∙◌}
+use Rattle.std.proofs.lemmas.Bool.{eqb-true, or_cases}
 use Rattle.std.specs.List.{AllZip}
 use Rattle.serde_json.specs.Data.{Num, unsigned, negative, float, Data, null, boolean, number, string, array, object, Items, no_items, item}
 use Rattle.serde_json.specs.Find.{as_array, as_number, as_str, as_u64, get}
 use Rattle.serde_json.specs.View.{items_of}
-use Rattle.baseline_json.specs.declared.baseline.TheConstants.{VERSION}
+use Rattle.baseline_json.specs.declared.baseline.TheConstants.{FIRST_VERSION, SECOND_VERSION}
 use Rattle.baseline_json.specs.BaselineLaws.{WhatReportsSay}
 use Rattle.baseline_json.specs.BaselineRead.{finding_with, report_with}
-use Rattle.baseline_json.specs.BaselineReports.{HasReason, IsFinding, IsPackage, IsReport, joined}
-use Rattle.baseline_json.specs.BaselineValues.{BaselineEntry, accepted_under, finding_in, findings_of, findings_under, number_under, package_in, packages_of, packages_under, report_in, text_under}
+use Rattle.baseline_json.specs.BaselineReports.{HasReason, IsFinding, IsPackage, IsReport, IsVersion, joined}
+use Rattle.baseline_json.specs.BaselineValues.{BaselineEntry, accepted_under, finding_in, findings_of, findings_under, is_known, number_under, package_in, packages_of, packages_under, report_in, text_under}
 use Rattle.baseline_json.proofs.MembersRead.{in_members, in_report}
 
 some_same : {A : Type 0} {a b : A} → Some a ≡ Some b → a ≡ b
@@ -181,6 +181,14 @@ packages_said (d ∷ ds) (x ∷ packages) h =
 
 -- Reports
 
+version_known : (under : Option Data) (version : ℕ) → under ≡ Some (number (unsigned version)) → is_known version ≡ true
+    → IsVersion under
+version_known under version is known =
+    elim (or_cases (version == FIRST_VERSION) (version == SECOND_VERSION) known) [
+      | inl first ↦ inl (is ∙ ap (λ n. Some (number (unsigned n))) (eqb-true version FIRST_VERSION first))
+      | inr second ↦ inr (is ∙ ap (λ n. Some (number (unsigned n))) (eqb-true version SECOND_VERSION second))
+    ]
+
 known : (b : Bool) (found : Option (List BaselineEntry)) (entries : List BaselineEntry)
     → (if b then found else None) ≡ Some entries
     → (b ≡ true) × (found ≡ Some entries)
@@ -191,12 +199,12 @@ report_is : (value : Data) (entries : List BaselineEntry) → report_in value �
 unfolding report_in
 report_is value entries e =
     let version = then_some entries _ (number_under (get (codes "version") value)) e in
-    let is_known = known (version.0 == VERSION) _ entries version.2 in
-    let found = list_under packages_of (get (codes "packages") value) entries is_known.1 in
+    let that = known (is_known version.0) _ entries version.2 in
+    let found = list_under packages_of (get (codes "packages") value) entries that.1 in
     let all = packages_are found.0 entries found.2 in record {
       has_version =
-          version_is (get (codes "version") value) version.0 version.1
-          ∙ ap (λ n. Some (number (unsigned n))) (eqb-true version.0 VERSION is_known.0);
+          version_known (get (codes "version") value) version.0
+          (version_is (get (codes "version") value) version.0 version.1) that.0;
       values = found.0;
       has_packages = found.1;
       packages = all.0;
@@ -204,15 +212,24 @@ report_is value entries e =
       are_all = all.2;
     }
 
-with_version : (findings : Option (List BaselineEntry)) → report_with (Some VERSION) findings ≡ findings
+with_first : (findings : Option (List BaselineEntry)) → report_with (Some FIRST_VERSION) findings ≡ findings
 unfolding report_with
-with_version findings = refl
+with_first findings = refl
+
+with_second : (findings : Option (List BaselineEntry)) → report_with (Some SECOND_VERSION) findings ≡ findings
+unfolding report_with
+with_second findings = refl
+
+with_version : (under : Option Data) → IsVersion under → (findings : Option (List BaselineEntry))
+    → report_with (number_under under) findings ≡ findings
+with_version under (inl first) findings = (λ i. report_with (number_under (first i)) findings) ∙ with_first findings
+with_version under (inr second) findings = (λ i. report_with (number_under (second i)) findings) ∙ with_second findings
 
 report_said : (value : Data) (entries : List BaselineEntry) → IsReport value entries → report_in value ≡ Some entries
 report_said value entries h =
     in_report value
-    ∙ (λ i. report_with (number_under (h.has_version i)) (packages_under (h.has_packages i)))
-    ∙ with_version (packages_of (items_of h.values))
+    ∙ (λ i. report_with (number_under (get (codes "version") value)) (packages_under (h.has_packages i)))
+    ∙ with_version (get (codes "version") value) h.has_version (packages_of (items_of h.values))
     ∙ packages_said h.values h.packages h.are_packages
     ∙ ap Some (sym h.are_all)
 

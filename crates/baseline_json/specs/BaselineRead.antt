@@ -5,11 +5,10 @@ use Rattle.serde_json.specs.Data.{Data, Members}
 use Rattle.serde_json.specs.Find.{get_member}
 use Rattle.json_reading.specs.declared.stop.Stop.{Stop}
 use Rattle.json_reading.specs.declared.stop.Stop.TheVariants as stop
-use Rattle.baseline_json.specs.declared.baseline.TheConstants.{VERSION}
 use Rattle.baseline_json.specs.declared.fault.BaselineFault.{BaselineFault}
 use Rattle.baseline_json.specs.declared.fault.BaselineFault.TheVariants.{NotJson, OutOfMemory}
 use Rattle.baseline_json.specs.declared.findings.FindingMembers.{FindingMembers}
-use Rattle.baseline_json.specs.BaselineValues.{◌>>=◌, BaselineEntry, accepted_under, number_under, packages_under, text_under}
+use Rattle.baseline_json.specs.BaselineValues.{◌>>=◌, BaselineEntry, accepted_under, is_known, number_under, packages_under, text_under}
 
 -- the value that stands there was passed, and this was found in it
 abbrev pub ReadsIn : {X : Type 0} → (Data → X) → Option (Data × List Token) → List Token → X → Type 0
@@ -52,7 +51,7 @@ pub record HasReportMembers (findings : Option (List BaselineEntry)) (version : 
 unfoldable pub report_with : Option ℕ → Option (List BaselineEntry) → Option (List BaselineEntry)
 report_with version findings = do
   v ← version
-  if v == VERSION then findings else None
+  if is_known v then findings else None
 
 abbrev pub fault_of_stop : Stop → BaselineFault
 fault_of_stop stop.NotJson = NotJson

@@ -1,11 +1,11 @@
 -- What a value has that is a report, key by key. Members under other keys play no part. That these are the values that
 -- say findings (`report_in`) is proved: `WhatReportsSay`.
-use Rattle.std.specs.Prelude.{ℕ, ◌≡◌, Bool, true, false, List, [], ◌∷◌, ◌++◌, Option, Some, None, codes}
+use Rattle.std.specs.Prelude.{ℕ, ◌≡◌, ◌⊎◌, Bool, true, false, List, [], ◌∷◌, ◌++◌, Option, Some, None, codes}
 use Rattle.std.specs.List.{AllZip}
 use Rattle.serde_json.specs.Data.{Data, unsigned, number, string, array}
 use Rattle.serde_json.specs.Find.{get}
 use Rattle.serde_json.specs.View.{items_of}
-use Rattle.baseline_json.specs.declared.baseline.TheConstants.{VERSION}
+use Rattle.baseline_json.specs.declared.baseline.TheConstants.{FIRST_VERSION, SECOND_VERSION}
 use Rattle.baseline_json.specs.BaselineValues.{BaselineEntry}
 
 -- under `accepted` stands a reason where a finding was accepted, and nothing where it was not
@@ -31,9 +31,13 @@ abbrev pub joined : List (List BaselineEntry) → List BaselineEntry
 joined [] = []
 joined (entries ∷ packages) = entries ++ joined packages
 
--- an object with the known version and a list of packages, one a value, of which these are all findings
+-- one of the known versions
+abbrev pub IsVersion : Option Data → Type 0
+IsVersion under = (under ≡ Some (number (unsigned FIRST_VERSION))) ⊎ (under ≡ Some (number (unsigned SECOND_VERSION)))
+
+-- an object with a known version and a list of packages, one a value, of which these are all findings
 pub record IsReport (value : Data) (entries : List BaselineEntry) : Type 0 where
-  pub has_version : get (codes "version") value ≡ Some (number (unsigned VERSION))
+  pub has_version : IsVersion (get (codes "version") value)
   pub values : List Data
   pub has_packages : get (codes "packages") value ≡ Some (array (items_of values))
   pub packages : List (List BaselineEntry)

@@ -1,12 +1,12 @@
 -- What an earlier report found, and which value says it. Of each object the keys that are named here count, and others
 -- are passed over. An object of `serde_json` has each key once: of equal keys of a text the last one counts. A report
 -- is written so by `ctxvet check --format json`.
-use Rattle.std.specs.Prelude.{ℕ, ◌==◌, Bool, true, false, List, [], ◌∷◌, ◌++◌, Option, Some, None, if◌then◌else◌, map, option_and_then, option_map, codes, string_bytes}
+use Rattle.std.specs.Prelude.{ℕ, ◌==◌, ◌||◌, Bool, true, false, List, [], ◌∷◌, ◌++◌, Option, Some, None, if◌then◌else◌, map, option_and_then, option_map, codes, string_bytes}
 use Rattle.serde_json.specs.Data.{Data, Items, no_items, item}
 use Rattle.serde_json.specs.Find.{as_array, as_number, as_str, as_u64, get}
 use Rattle.baseline_json.specs.declared.baseline.Baseline.{Baseline}
 use Rattle.baseline_json.specs.declared.baseline.BaselineFinding.{BaselineFinding}
-use Rattle.baseline_json.specs.declared.baseline.TheConstants.{VERSION}
+use Rattle.baseline_json.specs.declared.baseline.TheConstants.{FIRST_VERSION, SECOND_VERSION}
 
 -- one finding
 pub record BaselineEntry : Type 0 where
@@ -87,8 +87,12 @@ packages_under under = option_and_then packages_in under
 abbrev pub number_under : Option Data → Option ℕ
 number_under under = option_and_then as_u64 (option_and_then as_number under)
 
--- the findings of a report, where its version is the one that is known
+-- reports of these versions are read
+abbrev pub is_known : ℕ → Bool
+is_known version = version == FIRST_VERSION || version == SECOND_VERSION
+
+-- the findings of a report, where its version is known
 unfoldable pub report_in : Data → Option (List BaselineEntry)
 report_in value = do
   version ← number_under (get (codes "version") value)
-  if version == VERSION then packages_under (get (codes "packages") value) else None
+  if is_known version then packages_under (get (codes "packages") value) else None

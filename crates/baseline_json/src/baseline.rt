@@ -1,7 +1,9 @@
 //! What an earlier report found.
 
-/// The version of the reports that are read.
-pub(crate) const VERSION: u64 = 1;
+/// The versions of the reports that are read. Both say of findings the same.
+pub(crate) const FIRST_VERSION: u64 = 1;
+
+pub(crate) const SECOND_VERSION: u64 = 2;
 
 /// One finding of an earlier report.
 #[derive(Debug, Drop)]

@@ -3,9 +3,9 @@
 ghost use Rattle.std.specs.Prelude.{◌≡◌, IfErr, IfOk, map, option_map};
 ghost use Rattle.baseline_json.specs.BaselineRead.{report_with};
 ghost use Rattle.baseline_json.specs.BaselineTexts.{IsBaselineFault, IsBaselineText};
-ghost use Rattle.baseline_json.specs.BaselineValues.{entries_of, entry_of};
+ghost use Rattle.baseline_json.specs.BaselineValues.{entries_of, entry_of, is_known};
 
-use crate::baseline::{Baseline, BaselineFinding, VERSION};
+use crate::baseline::{Baseline, BaselineFinding, FIRST_VERSION, SECOND_VERSION};
 use crate::fault::BaselineFault;
 use crate::packages::read_packages;
 use json::Reader;
@@ -45,13 +45,20 @@ impl ReadMember for ReportMembers {
     }
 }
 
+/// Whether reports of this version are read.
+fn is_known(version: u64) -> bool
+    ensures { result ≡ is_known version }
+{
+    version == FIRST_VERSION || version == SECOND_VERSION
+}
+
 /// The report of an object with such members.
 #[tactic(auto, unfolding(crate::specs::BaselineRead::report_with))]
 fn report_with(members: ReportMembers) -> Option<Baseline>
     ensures { option_map entries_of result
         ≡ report_with members.version (option_map (λ list. map entry_of list.items) members.findings) }
 {
-    if members.version? == VERSION {
+    if is_known(members.version?) {
         Some(Baseline {
             findings: members.findings?,
         })
@@ -99,7 +106,7 @@ impl ReadItem for Report {
 /// # Errors
 ///
 /// The text is no JSON, or it nests deeper than 127: this is `BaselineFault::NotJson`. It is JSON of no report: this is
-/// `BaselineFault::WrongShape`. It is so where the text is no object, its `version` is not the whole number 1, its
+/// `BaselineFault::WrongShape`. It is so where the text is no object, its `version` is not the whole number 1 or 2, its
 /// `packages` are no list of objects with a list as `diagnostics`, or one of these is no object with strings as `file`,
 /// `code` and `name`, or has an `accepted` that is no string. Or memory was refused. This is the order in which it is
 /// looked for them.

@@ -93,7 +93,10 @@ const PACKAGE: &str = "A package's import path, `=`, and the folder of its files
 each file there is read that ends in .go and not in _test.go";
 
 /// The version of the program.
-pub const VERSION: &str = "0.1.0";
+pub const VERSION: &str = "0.3.0";
+
+/// The version with the editions of the rules that it has, and the versions of Go whose files it reads.
+const VERSION_TEXT: &str = "0.3.0 (rules: edition 2, and 1; reads Go 1.0 to 1.25)";
 
 /// The name of the option for a list, by which it is told that words of packages may be left out.
 const LIST_ID: &str = "packages";
@@ -105,7 +108,7 @@ const CERT_ID: &str = "cert";
 fn command<'a>(alloc: Global) -> Result<Command<'a>, AllocError> {
     Command::new(alloc, "ctxvet")
         .about(ABOUT)
-        .version(VERSION)
+        .version(VERSION_TEXT)
         .after_help(AFTER)
         .bin_name("ctxvet")?
         .no_binary_name(true)

@@ -206,7 +206,7 @@ flag_list =
 
 -- which program this is, by its own file: the go command takes the whole line for it
 abbrev pub version_line : ReadFile → List ℕ
-version_line file = codes "ctxvet version 0.1.0 " ++ (digest_text (bytes_read file) ++ codes "\n")
+version_line file = codes "ctxvet version 0.3.0 " ++ (digest_text (bytes_read file) ++ codes "\n")
 
 abbrev pub IsVersionFault : Fault → Type 0
 IsVersionFault (CannotRead name) = ⊤

@@ -1,12 +1,11 @@
 -- Packages that were loaded twice of the same files are alike: they are equal but for the reasons why trees are missing,
 -- which no contract tells. What `verify` says of one of them says nothing exactly where it does of the other.
 use Rattle.std.proofs.Common.{◌≡◌, ℕ, zero, suc, ◌+◌, ◌⊎◌, inl, inr, Bool, true, false, List, [], ◌∷◌, map, Some, None, Contains, refl, sym, ap, ◌∙◌, subst}
-use Rattle.std.specs.Prelude.{if◌then◌else◌, flat_map, slice_get, string_bytes}
-use Rattle.std.specs.List.{list_any}
+use Rattle.std.specs.Prelude.{◌&&◌, not, is_some, if◌then◌else◌, flat_map, slice_get, string_bytes}
+use Rattle.std.specs.List.{list_all, list_any}
 use Rattle.std.specs.Str.{bytes_eq}
 use Rattle.std.proofs.lemmas.Option.{none-some, same_Some}
 use Rattle.imports.specs.Ranks.{Package, Imports, HasRank}
-use Rattle.imports.specs.Settling.{place_from}
 use Rattle.lexer.specs.declared.fault.LexFault.{LexFault}
 use Rattle.lexer.specs.declared.fault.LexFault.TheVariants as lex_fault
 use Rattle.lexer.proofs.Outcomes.{one_outcome, one_fault}
@@ -26,9 +25,9 @@ use Rattle.meaning.specs.Tracked.{Fields, each_field}
 use Rattle.meaning.specs.TwoFunctions.{FunctionName, function_names_from, second_function}
 use Rattle.meaning.specs.Uses.{Seen}
 use Rattle.meaning_packages.specs.CallsFlags.{Flags, FileWithCredits, calls_by}
-use Rattle.meaning_reports.specs.Loaded.{Reading, has_tree, has_text_fault, has_tree_fault, LoadedPackage, NumberedTree, Tables, no_table, trees_from, numbered_trees, trees_of, imports_of, import_list, name_in, name_of, package_at, package_names, imported_flags, imported_tables, signatures_of, seen_from, fields_by, seen_files}
-use Rattle.meaning_reports.specs.DotImports.{SaysSomething, as_library, by_table, by_fault, IsLeftOut}
-use Rattle.meaning_reports.specs.UsedImports.{IsUsed, IsNeeded, in_first, has_whole_fault, is_used}
+use Rattle.meaning_reports.specs.Loaded.{Reading, has_tree, has_text_fault, has_tree_fault, LoadedPackage, is_read, counts, counts_as_given, counts_by, NumberedTree, Tables, no_table, trees_from, numbered_trees, trees_of, imports_of, import_list, name_in, name_of, package_at, package_names, imported_flags, imported_tables, signatures_of, seen_from, fields_by, seen_files}
+use Rattle.meaning_reports.specs.DotImports.{SaysSomething, as_library, by_table, IsLeftOut}
+use Rattle.meaning_reports.specs.UsedImports.{IsUsed, IsNeeded, in_first, is_used}
 use Rattle.meaning_reports.specs.PackageReports.{IsFindingBy, of_whole, of_import, of_dot, of_files, IsYesBy}
 use Rattle.meaning_reports.specs.PackageTables.{tells, tells_of, IsEmpty, IsTableBy, empty, full, AreTablesBy}
 use Rattle.meaning_reports.specs.WholeFaults.{ImportsAt, IsWholeFault, has_no_tokens, has_no_tree, has_two_functions, has_no_rank, HasNoWholeFault}
@@ -219,6 +218,34 @@ numbered_same p q h = same_trees 0 p.files q.files h.are_files
 trees_same : (p q : LoadedPackage) → IsLike p q → trees_of p ≡ trees_of q
 trees_same p q h = ap (map (λ (t : NumberedTree). t.tree)) (numbered_same p q h)
 
+-- Whether they count as given
+
+read_same : (r s : Reading) → IsLikeReading r s → is_read r ≡ is_read s
+read_same r s (inl same) = ap is_read same
+read_same (has_tree t) s (inr both) = absurd both.0
+read_same (has_text_fault at why) s (inr both) = absurd both.0
+read_same (has_tree_fault at why) (has_tree t) (inr both) = absurd both.1
+read_same (has_tree_fault at why) (has_text_fault place reason) (inr both) = absurd both.1
+read_same (has_tree_fault at why) (has_tree_fault place reason) (inr both) = refl
+
+all_read_same : (rs ss : List Reading) → AreLike rs ss → list_all is_read rs ≡ list_all is_read ss
+all_read_same [] [] h = refl
+all_read_same [] (s ∷ ss) h = absurd h
+all_read_same (r ∷ rs) [] h = absurd h
+all_read_same (r ∷ rs) (s ∷ ss) h = λ j. read_same r s h.0 j && all_read_same rs ss h.1 j
+
+counts_same : (p q : LoadedPackage) → IsLike p q → counts_as_given p ≡ counts_as_given q
+counts_same p q h = λ j.
+    counts_by (h.is_edition j)
+    (all_read_same p.files q.files h.are_files j && not (is_some (second_function (trees_same p q h j))))
+
+counted_there : (ps qs : List LoadedPackage) → AreAlike ps qs → (j : ℕ) → counts (slice_get ps j) ≡ counts (slice_get qs j)
+counted_there [] [] h j = refl
+counted_there [] (q ∷ qs) h j = absurd h
+counted_there (p ∷ ps) [] h j = absurd h
+counted_there (p ∷ ps) (q ∷ qs) h zero = counts_same p q h.0
+counted_there (p ∷ ps) (q ∷ qs) h (suc j) = counted_there ps qs h.1 j
+
 abbrev paths_in : List SourceFile → List (List ℕ)
 paths_in trees = flat_map (λ tree. map (λ s. s.path) (imports_of tree)) trees
 
@@ -244,7 +271,7 @@ names_same (p ∷ ps) (q ∷ qs) h path =
   where
     by : (b : Bool) → name_of (package_at path ps) ≡ name_of (package_at path qs)
         → name_of (if b then Some p else package_at path ps) ≡ name_of (if b then Some q else package_at path qs)
-    by true rest = ap name_in (trees_same p q h.0)
+    by true rest = λ j. if counts_same p q h.0 j then name_in (trees_same p q h.0 j) else None
     by false rest = rest
 
 -- by their edition, their trees and the names of packages alone
@@ -350,14 +377,11 @@ module _ (ps qs : List LoadedPackage) (alike : AreAlike ps qs) (given : GivenByP
 
   -- Imports with a dot
 
-  says_too_of : (path : List ℕ) (p q : LoadedPackage) → IsLike p q → SaysSomething ps (imported_tables p tables) path
-      → SaysSomething qs (imported_tables q tables) path
+  says_too_of : (path : List ℕ) (p q : LoadedPackage) → IsLike p q → SaysSomething (imported_tables p tables) path
+      → SaysSomething (imported_tables q tables) path
   says_too_of path p q h (as_library library) = as_library library
   says_too_of path p q h (by_table told) =
       by_table (ap (λ (trees : List SourceFile). (table_with trees tables path).is_told) (sym (trees_same p q h)) ∙ told)
-  says_too_of path p q h (by_fault j x place fault) =
-      let w = whole_too ps qs alike j x fault in
-      by_fault j w.0 (ap (λ (l : List Package). place_from path l 0) (sym (lists_same ps qs alike)) ∙ place) w.1
 
   dots_too : (i file : ℕ) (dot : Identifier) → IsLeftOut ps tables i file dot → IsLeftOut qs tables i file dot
   dots_too i file dot h =
@@ -397,8 +421,7 @@ module _ (ps qs : List LoadedPackage) (alike : AreAlike ps qs) (given : GivenByP
   needed_too : (i j : ℕ) (path : List ℕ) → IsNeeded ps tables i j path → IsNeeded qs tables i j path
   needed_too i j path (in_first {importer = p} is first) =
       let q = package_there ps qs alike i p is in in_first q.1 (sym q.2.is_edition ∙ first)
-  needed_too i j path (has_whole_fault {x = x} fault) = has_whole_fault (whole_too ps qs alike j x fault).1
-  needed_too i j path (is_used h) = is_used (used_too i path h)
+  needed_too i j path (is_used counted h) = is_used (sym (counted_there ps qs alike j) ∙ counted) (used_too i path h)
 
   -- What `verify` says
 

@@ -16,14 +16,15 @@ use Rattle.meaning.specs.Tracked.{Fields, each_field}
 use Rattle.meaning.specs.Uses.{Callee, Seen}
 use Rattle.meaning_packages.specs.CallsFlags.{Flags, FileWithCredits, calls_by, AreConsistent}
 use Rattle.meaning_packages.specs.Credits.{AreFullCredits}
+use Rattle.meaning_reports.proofs.CountedPackages.{passed_over}
 use Rattle.meaning_reports.proofs.ImportsOf.{has_path, no_place, in_lists, given_in_lists, names_first, cannot_be_unranked, import_there, is_named}
 use Rattle.meaning_reports.proofs.OneAnswer.{one_list}
-use Rattle.meaning_reports.specs.DotImports.{SaysSomething, as_library, by_table, by_fault, IsLeftOut}
+use Rattle.meaning_reports.specs.DotImports.{SaysSomething, as_library, by_table, IsLeftOut}
 use Rattle.meaning_reports.proofs.RanksGiven.{HasOrder, has_order}
-use Rattle.meaning_reports.specs.Loaded.{LoadedPackage, PackageTable, Tables, no_table, is_imported, import_list, imported_paths, imported_tables, imported_flags, imported_signatures, means_in, signatures_of, trees_of, seen_from, fields_by, keeping_in, known_with, seen_files}
+use Rattle.meaning_reports.specs.Loaded.{LoadedPackage, PackageTable, Tables, counts, counts_as_given, no_table, is_imported, import_list, imported_paths, imported_tables, imported_flags, imported_signatures, means_in, signatures_of, trees_of, seen_from, fields_by, keeping_in, known_with, seen_files}
 use Rattle.meaning_reports.specs.PackageReports.{IsFindingBy, of_whole, of_import, of_dot, of_files, IsYesBy, IsFileFinding, SaysByPaths, by_paths}
 use Rattle.meaning_reports.specs.PackageTables.{AreCredited, no_file, file_and, IsTableBy, empty, full, AreTablesBy, IsJudged, AreFlagsByPaths}
-use Rattle.meaning_reports.specs.UsedImports.{HandsThere, IsUsed, IsNeeded, in_first, has_whole_fault, is_used}
+use Rattle.meaning_reports.specs.UsedImports.{HandsThere, IsUsed, IsNeeded, in_first, is_used}
 use Rattle.meaning_reports.specs.WholeFaults.{HasNoWholeFault}
 use Rattle.meaning_runs.specs.BodyOffsets.{BodiesAreApart}
 use Rattle.meaning_runs.specs.Promise.{AreTreesOfTexts}
@@ -114,11 +115,10 @@ module _ (bodies : BodiesAreApart) (consistent : ClaimsAreConsistent) (found : N
       by true = same_at (λ (t : PackageTable). t.is_told) one_told path
       by false = refl
 
-  says_still : (p : LoadedPackage) (path : List ℕ) → SaysSomething ps (imported_tables p more_known) path
-      → SaysSomething ps (imported_tables p known) path
+  says_still : (p : LoadedPackage) (path : List ℕ) → SaysSomething (imported_tables p more_known) path
+      → SaysSomething (imported_tables p known) path
   says_still p path (as_library library) = as_library library
   says_still p path (by_table told) = by_table (told_imported p path ∙ told)
-  says_still p path (by_fault j x place fault) = by_fault j x place fault
 
   dot_still : (i file : ℕ) (dot : Identifier) → IsLeftOut ps more_known i file dot → IsLeftOut ps known i file dot
   dot_still i file dot h = record {
@@ -167,8 +167,7 @@ module _ (bodies : BodiesAreApart) (consistent : ClaimsAreConsistent) (found : N
 
   needed_still : (i j : ℕ) (path : List ℕ) → IsNeeded ps more_known i j path → IsNeeded ps known i j path
   needed_still i j path (in_first is first) = in_first is first
-  needed_still i j path (has_whole_fault fault) = has_whole_fault fault
-  needed_still i j path (is_used h) = is_used (used_still i path h)
+  needed_still i j path (is_used counted h) = is_used counted (used_still i path h)
 
   -- A package
 
@@ -265,21 +264,38 @@ module _ (bodies : BodiesAreApart) (consistent : ClaimsAreConsistent) (found : N
     full_credits = λ k chain. h.full_credits k (goes_on im chain);
   }
 
-  -- the package at j is yes, if the other one uses it
-  yes_of_import : (i j : ℕ) (q : LoadedPackage) → slice_get ps j ≡ Some q → Imports lists i j → IsUsed ps known i q.path
+  -- the package at j is yes, if it counts as given, and the other one uses it
+  yes_of_import : (i j : ℕ) (q : LoadedPackage) → slice_get ps j ≡ Some q → counts_as_given q ≡ true → Imports lists i j
+      → IsUsed ps known i q.path
       → IsBelieved i
       → IsYesBy (by_certificates given declared) ps known j
-  yes_of_import i j q is im its_use h x finding =
+  yes_of_import i j q is counted im its_use h x finding =
       let importer = given_in_lists ps i im.importer im.is_importer in
       let w = is_named ps i importer.0 importer.1 j im in
       let there = import_there ps i importer.0 importer.1 w.tree w.spec j w.is_tree w.is_spec w.first in
       let same : q ≡ there.imported = same_Some q there.imported (sym is ∙ there.is_imported) in
       let path = ap (λ (r : LoadedPackage). r.path) same ∙ sym there.is_path in
       h.said_none _ (of_import j w.tree.file w.spec x (none_whole i h) there
-      (is_used (subst (λ (r : List ℕ). IsUsed ps known i r) path its_use)) finding)
+      (is_used (ap counts is ∙ counted) (subst (λ (r : List ℕ). IsUsed ps known i r) path its_use)) finding)
 
   abbrev Grows : LoadedPackage → Type 0
   Grows p = (name : List ℕ) (k : ℕ) → (known p.path).calls name k ≡ true → (more_known p.path).calls name k ≡ true
+
+  -- of one that counts as not given nothing is known
+  passed_grows : (k : ℕ) (q : LoadedPackage) → slice_get ps k ≡ Some q → counts_as_given q ≡ false → Grows q
+  passed_grows k q there off = by (by_cert.of_package k q there)
+    where
+      by : IsTableBy (AreFlagsByCertificates given) ps known k q (known q.path) → Grows q
+      by (empty x fault g) = λ name n e. absurd (true≢false (sym e ∙ g.no_flag name n))
+      by (full flags none its signatures calls told) =
+          let w = passed_over ps k q there off in absurd (none w.0 w.1)
+
+  grows_if_counted : (k : ℕ) (q : LoadedPackage) → slice_get ps k ≡ Some q → (counts_as_given q ≡ true → Grows q) → Grows q
+  grows_if_counted k q there grows = by (counts_as_given q) refl
+    where
+      by : (b : Bool) → counts_as_given q ≡ b → Grows q
+      by true e = grows e
+      by false e = passed_grows k q there e
 
   own_grows : (i : ℕ) (p : LoadedPackage) → slice_get ps i ≡ Some p → IsBelieved i → ImportsGrow i p → Grows p
   own_grows i p is h imports = by (by_cert.of_package i p is) (by_path.of_package i p is)
@@ -326,10 +342,11 @@ module _ (bodies : BodiesAreApart) (consistent : ClaimsAreConsistent) (found : N
         → Grows p
     grows_below zero i r p is ranked l h = absurd (omega (arith, l))
     grows_below (suc n) i r p is ranked l h = own_grows i p is h (imports_grow i p is λ k q there im its_use.
+        grows_if_counted k q there λ counted.
         let w = order.is_order.imports_first i k r im ranked in
         let low = w.2 in
         grows_below n k w.0 q there w.1 (omega (arith, l, low))
-        (below i k im (yes_of_import i k q there im its_use h) h))
+        (below i k im (yes_of_import i k q there counted im its_use h) h))
 
     its_rank : (i : ℕ) (p : LoadedPackage) → slice_get ps i ≡ Some p → HasNoWholeFault ps i
         → (r : ℕ) × (order.rank i ≡ Some r)
@@ -343,7 +360,8 @@ module _ (bodies : BodiesAreApart) (consistent : ClaimsAreConsistent) (found : N
 
     all_grow : (i : ℕ) (p : LoadedPackage) → slice_get ps i ≡ Some p → IsBelieved i → ImportsGrow i p
     all_grow i p is h = imports_grow i p is λ k q there im its_use.
-        let other = below i k im (yes_of_import i k q there im its_use h) h in
+        grows_if_counted k q there λ counted.
+        let other = below i k im (yes_of_import i k q there counted im its_use h) h in
         let r = its_rank k q there (none_whole k other) in
         grows_below (suc r.0) k r.0 q there r.1 (omega arith) other
 

@@ -30,7 +30,7 @@ use Rattle.meaning_reports.proofs.OneAnswer.{one_table_by}
 use Rattle.meaning_reports.specs.Loaded.{LoadedPackage, Tables, trees_of, imported_flags, fields_by, keeping_in, known_with, known_in, seen_from, seen_files}
 use Rattle.meaning_reports.specs.PackageTables.{AreCredited, no_file, file_and, IsJudged}
 use Rattle.meaning_runs.proofs.EntryPlaces.{seen_there, tree_seen}
-use Rattle.meaning_runs.proofs.KnownFlags.{no_second}
+use Rattle.meaning_reports.proofs.CountedPackages.{no_second}
 use Rattle.meaning_runs.proofs.NamedBodies.{AreApart, apart, one_body}
 use Rattle.meaning_runs.specs.BodyOffsets.{BodiesAreApart}
 use Rattle.meaning_runs.specs.Promise.{AreTreesOfTexts}

@@ -264,10 +264,7 @@ module _ (ps : List LoadedPackage) (i : ℕ) (p : LoadedPackage) (is_p : slice_g
         place = right.place;
         is_place = ap (λ q. place_from q (import_list ps) 0) t.is_read.is_path ∙ right.is_place;
         is_name = t.is_read.is_name ∙ (right.is_name ∙ ap (package_names ps) (sym t.is_read.is_path));
-        is_fault = (
-          λ e. right.is_fault.0 (sym t.is_read.is_faulty ∙ e),
-          λ fault. t.is_read.is_faulty ∙ right.is_fault.1 fault,
-        );
+        is_counted = t.is_read.is_counted ∙ right.is_counted;
       }
 
   some_told : (path : List ℕ) → Contains (imported_paths p) path

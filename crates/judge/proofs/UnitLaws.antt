@@ -1,6 +1,7 @@
 -- What runs of single packages say is the report of all: this goes by the times at which they were.
 use Rattle.std.proofs.Common.{◌≡◌, ℕ, zero, suc, ◌<◌, inl, inr, ◌≤◌, Bool, true, false, if◌then◌else◌, List, [], ◌∷◌, map, Contains, Option, Some, None, option_map, is_some, bytes_eq, refl, sym, ap, ◌∙◌, subst, arith}
-use Rattle.std.specs.Prelude.{slice_get, not}
+use Rattle.std.specs.Prelude.{◌↔◌, ◌==◌, ◌&&◌, slice_get, not}
+use Rattle.std.proofs.lemmas.Bool.{false≢true}
 use Rattle.std.proofs.lemmas.List.{length-map}
 use Rattle.std.proofs.lemmas.Option.{none-some, same_Some, slice_get-map, slice_get_cases, slice_get_within}
 use Rattle.std.proofs.lemmas.Slice.Eq.{bytes_eq-Decides}
@@ -13,20 +14,24 @@ use Rattle.imports.proofs.GivenImports.{first_there, there_first}
 use Rattle.imports.specs.Ranks.{Package, Imports, Chain, HasRank, ends, goes_on}
 use Rattle.imports.specs.Settling.{place_from}
 use Rattle.judge.proofs.UnitNames.{named_again}
-use Rattle.judge.specs.UnitLaws.{UnitRun, IsKeptOf, IsToldOfRun, AreOfTexts, AreUnitRuns, said_by, UnitRunsAreTheReport}
-use Rattle.judge.specs.Units.{AreImportsTold, IsRightlyTold, kept_of, name_if_any, told_by_vetx, told_of_path, told_of_package, tellings_in}
+use Rattle.judge.specs.UnitLaws.{UnitRun, IsKeptOf, IsToldOfRun, AreOfTexts, AreUnitRuns, edition_number, said_by, UnitRunsAreTheReport}
+use Rattle.judge.specs.Units.{AreImportsTold, IsRightlyTold, counts_so, kept_of, name_if_any, name_so, told_by_vetx, told_of_path, told_of_package, tellings_in}
 use Rattle.judge.specs.declared.units.ImportedUnit.{ImportedUnit}
 use Rattle.meaning.proofs.Membership.{contains_here, contains_there}
 use Rattle.meaning.specs.OuterBlocks.{has_any, or_else}
+use Rattle.meaning_reports.proofs.CountedPackages.{counted, first_counts, passed_over, well}
 use Rattle.meaning_reports.proofs.ImportsOf.{given_in_lists, in_lists, names_first}
-use Rattle.meaning_reports.proofs.OneReport.{flags_by_paths}
-use Rattle.meaning_reports.specs.Loaded.{LoadedPackage, PackageTable, Tables, HaveDistinctPaths, import_list, imported_paths, name_in, name_of, no_table, package_at, package_names, trees_of}
+use Rattle.meaning_reports.proofs.OneReport.{flags_by_paths, nothing_known}
+use Rattle.meaning_reports.specs.Loaded.{LoadedPackage, PackageTable, Tables, HaveDistinctPaths, counts, counts_as_given, import_list, imported_paths, name_in, name_of, no_table, package_at, package_names, trees_of}
 use Rattle.meaning_reports.specs.PackageReports.{Rules, by_paths}
-use Rattle.meaning_reports.specs.PackageTables.{IsTable}
+use Rattle.meaning_reports.specs.PackageTables.{IsEmpty, IsTable, empty, full}
+use Rattle.meaning_reports.specs.WholeFaults.{HasNoWholeFault, IsWholeFault}
+use Rattle.tree.specs.declared.edition.Edition.{Edition}
+use Rattle.tree.specs.declared.edition.Edition.TheVariants.{First, Second}
 use Rattle.one_package.proofs.FirstJudged.{some_from}
 use Rattle.one_package.proofs.ImportedNames.{import_path}
 use Rattle.one_package.specs.Judgments.{says_nothing, table_view}
-use Rattle.report.specs.Entries.{entry_of}
+use Rattle.report.specs.Entries.{Entry, entry_of}
 use Rattle.report.specs.declared.diagnostics.Diagnostic.{Diagnostic}
 use Rattle.vetx_json.specs.KeptUnits.{VetxEntry, function_of}
 use Rattle.vetx_tables.specs.KeptLaws.{AreKept}
@@ -51,23 +56,44 @@ told_at (one ∷ rest) path t e = by (bytes_eq one.path.now path) refl (told_at 
         (one, contains_here one rest, (bytes_eq-Decides one.path.now path).0 same, same_Some (told_by_vetx (kept_of one)) t is)
     by false same later is = let w = later is in (w.0, contains_there one w.0 rest w.1, w.2, w.3)
 
+-- what is kept of a package's edition and faults tells whether it counts as given
+module _ (ps : List LoadedPackage) (j : ℕ) (q : LoadedPackage) (is : slice_get ps j ≡ Some q)
+    (rank : HasRank (import_list ps) j) (mark : Bool) (fault : (mark ≡ true) ↔ ((x : Entry) × IsWholeFault ps j x)) where
+  counted_first : (m : Bool) → not (m && (edition_number First == 2)) ≡ true
+  counted_first true = refl
+  counted_first false = refl
+
+  passed_over_so : (c : Bool) → counts_as_given q ≡ c → q.edition ≡ Second → mark ≡ true → counts_as_given q ≡ false
+  passed_over_so false e second marked = e
+  passed_over_so true e second marked =
+      let h = fault.0 marked in absurd (counted ps j q is second e rank h.0 h.1)
+
+  none_marked : mark ≡ false → HasNoWholeFault ps j
+  none_marked off x h = false≢true (sym off ∙ fault.1 (x, h))
+
+  counted_so : (edition : Edition) → q.edition ≡ edition → (m : Bool) → mark ≡ m
+      → not (m && (edition_number edition == 2)) ≡ counts_as_given q
+  counted_so First e m same = counted_first m ∙ sym (first_counts q e)
+  counted_so Second e true same = sym (passed_over_so (counts_as_given q) refl e same)
+  counted_so Second e false same = sym (well ps j q is (none_marked same))
+
 -- the name of the only package of a path
 named_at : (path : List ℕ) (ps : List LoadedPackage) (j : ℕ) (q : LoadedPackage) → slice_get ps j ≡ Some q → q.path ≡ path
     → ((k : ℕ) (r : LoadedPackage) → slice_get ps k ≡ Some r → r.path ≡ path → r ≡ q)
-    → package_names ps path ≡ name_in (trees_of q)
+    → package_names ps path ≡ name_of (Some q)
 named_at path [] zero q is same only = absurd (none-some q is)
 named_at path [] (suc j) q is same only = absurd (none-some q is)
 named_at path (p ∷ ps) zero q is same only =
     let own = same_Some p q is in
     ap (λ b. name_of (if b then Some p else package_at path ps))
     ((bytes_eq-Decides p.path path).1 (ap (λ (r : LoadedPackage). r.path) own ∙ same))
-    ∙ ap (λ r. name_in (trees_of r)) own
+    ∙ ap (λ r. name_of (Some r)) own
 named_at path (p ∷ ps) (suc j) q is same only =
     by (bytes_eq p.path path) refl (named_at path ps j q is same (λ k r there e. only (suc k) r there e))
   where
-    by : (b : Bool) → bytes_eq p.path path ≡ b → name_of (package_at path ps) ≡ name_in (trees_of q)
-        → name_of (if b then Some p else package_at path ps) ≡ name_in (trees_of q)
-    by true e rest = ap (λ r. name_in (trees_of r)) (only 0 p refl ((bytes_eq-Decides p.path path).0 e))
+    by : (b : Bool) → bytes_eq p.path path ≡ b → name_of (package_at path ps) ≡ name_of (Some q)
+        → name_of (if b then Some p else package_at path ps) ≡ name_of (Some q)
+    by true e rest = ap (λ r. name_of (Some r)) (only 0 p refl ((bytes_eq-Decides p.path path).0 e))
     by false e rest = rest
 
 module _ (outside : List PackageEntry) (ps : List LoadedPackage) (runs : List (UnitRun outside))
@@ -130,23 +156,34 @@ module _ (outside : List PackageEntry) (ps : List LoadedPackage) (runs : List (U
 
   -- What each is told is right
 
+  counts_there : {i : ℕ} {one : ImportedUnit} (w : IsToldOfRun ps runs i one) → counts_so (kept_of one) ≡ counts_as_given w.imported
+  counts_there {one = one} w =
+      let q = w.imported in
+      let tells = are.are_of w.place q w.run w.is_imported w.is_run in
+      let fault = w.run.is_report.is_fault ps w.place q w.is_imported tells distinct (is_ranked w.place) in
+      let same : counts_so (kept_of one) ≡ not (w.run.report.has_whole_fault && (edition_number q.edition == 2)) =
+      λ k. not (w.is_kept.is_fault k && (w.is_edition k == 2)) in
+      same
+      ∙ counted_so ps w.place q w.is_imported (is_ranked w.place) w.run.report.has_whole_fault fault q.edition refl
+      w.run.report.has_whole_fault refl
+
   told_right : (i : ℕ) (one : ImportedUnit) → IsToldOfRun ps runs i one → IsRightlyTold ps one
   told_right i one w =
       let q = w.imported in
       let tells = are.are_of w.place q w.run w.is_imported w.is_run in
-      let fault = w.run.is_report.is_fault ps w.place q w.is_imported tells distinct (is_ranked w.place) in
+      let counts_right = counts_there w in
+      let name : name_if_any (kept_of one).name ≡ name_in (trees_of q) =
+      ap name_if_any (w.is_kept.is_name ∙ w.run.is_report.is_name q tells)
+      ∙ named_again q.edition (trees_of q) (texts w.place q w.is_imported) in
+      let named : name_so (kept_of one) ≡ name_of (Some q) = λ k. if counts_right k then name k else None in
       record {
         place = w.place;
         is_place = ap (λ path. place_from path (import_list ps) 0) w.is_path ∙ place_at w.place q w.is_imported;
         is_name =
-            ap name_if_any (w.is_kept.is_name ∙ w.run.is_report.is_name q tells)
-            ∙ (named_again q.edition (trees_of q) (texts w.place q w.is_imported)
+            named
             ∙ (sym (named_at q.path ps w.place q w.is_imported refl (only_one w.place q w.is_imported))
-            ∙ ap (package_names ps) (sym w.is_path)));
-        is_fault = (
-          λ e. fault.0 (sym w.is_kept.is_fault ∙ e),
-          λ h. w.is_kept.is_fault ∙ fault.1 h,
-        );
+            ∙ ap (package_names ps) (sym w.is_path));
+        is_counted = counts_right ∙ sym (ap counts w.is_imported);
       }
 
   imports_told : (i : ℕ) (p : LoadedPackage) (run : UnitRun outside) → slice_get ps i ≡ Some p → slice_get runs i ≡ Some run
@@ -165,11 +202,27 @@ module _ (outside : List PackageEntry) (ps : List LoadedPackage) (runs : List (U
   -- by that what was kept it tells what the run says
   tells_so : (run : UnitRun outside) (v : VetxEntry) → IsKeptOf run.report v
       → AreKept (table_view run.is_report.judged) (map function_of run.report.functions.items)
+      → (counted : Bool) → counts_so v ≡ counted
+      → (counted ≡ false → IsEmpty (table_view run.is_report.judged))
       → told_by_vetx v ≡ told_of (said_by run)
-  tells_so run v kept again i = record {
-    table = (ap table_again kept.are_functions ∙ again.is_again) i;
+  tells_so run v kept again counted is none i = record {
+    table = (ap (λ b. table_again (if b then v.functions else [])) is ∙ by counted none) i;
     is_yes = (kept.is_yes ∙ (run.is_report.verdict ∙ same_verdict run.is_report.judged.report.diagnostics.items)) i;
   }
+    where
+      by : (b : Bool) → (b ≡ false → IsEmpty (table_view run.is_report.judged))
+          → table_again (if b then v.functions else []) ≡ table_view run.is_report.judged
+      by true known = ap table_again kept.are_functions ∙ again.is_again
+      by false known = sym (nothing_known (table_view run.is_report.judged) (known refl))
+
+  -- one that counts as not given has an empty table
+  empty_so : (j : ℕ) (q : LoadedPackage) (known : Tables) (table : PackageTable) → slice_get ps j ≡ Some q
+      → counts_as_given q ≡ false
+      → IsTable ps known j q table
+      → IsEmpty table
+  empty_so j q known table is not_counted (empty x fault nothing) = nothing
+  empty_so j q known table is not_counted (full flags none its signatures calls told) =
+      let w = passed_over ps j q is not_counted in absurd (none w.0 w.1)
 
   -- the tables that the runs say
   abbrev table_there : Option (UnitRun outside) → PackageTable
@@ -224,7 +277,11 @@ module _ (outside : List PackageEntry) (ps : List LoadedPackage) (runs : List (U
       let same = same_Some of.run imported (sym of.is_run ∙ (ap (slice_get runs) place ∙ its_q)) in
       ap (told_of_package run.told) is_q
       ∙ (t.1 ∙ ap Some (sym w.3 ∙ tells_so imported (kept_of w.0)
-      (subst (λ (r : UnitRun outside). IsKeptOf r.report (kept_of w.0)) same of.is_kept) (again j q imported is_q its_q right)))
+      (subst (λ (r : UnitRun outside). IsKeptOf r.report (kept_of w.0)) same of.is_kept) (again j q imported is_q its_q right)
+      (counts_so (kept_of w.0)) refl
+      (λ off. empty_so j q tables (said_by imported).table is_q
+      (sym (ap counts_as_given (same_Some of.imported q (sym of.is_imported ∙ (ap (slice_get ps) place ∙ is_q))))
+      ∙ (sym (counts_there of) ∙ off)) right.is_table)))
 
   right_run : (n i : ℕ) (p : LoadedPackage) (run : UnitRun outside) → slice_get ps i ≡ Some p → slice_get runs i ≡ Some run
       → run.time < n

@@ -19,6 +19,8 @@ use Rattle.meaning_runs.specs.PackageYes.{program_of}
 use Rattle.meaning_runs.specs.Promise.{AreTreesOfTexts}
 use Rattle.meaning_runs.specs.Runs.{IsQuietProgram}
 use Rattle.one_package.specs.Judgments.{said_view}
+use Rattle.tree.specs.declared.edition.Edition.{Edition}
+use Rattle.tree.specs.declared.edition.Edition.TheVariants.{First, Second}
 use Rattle.vetx_json.specs.KeptUnits.{VetxEntry, function_of}
 use Rattle.whole_packages.specs.LoadedViews.{TellsPackage}
 use Rattle.whole_packages.specs.declared.loaded_package.LoadedPackage.{LoadedPackage as KeptPackage}
@@ -39,6 +41,11 @@ pub record IsKeptOf (report : UnitReport) (v : VetxEntry) : Type 0 where
   pub is_yes : v.is_yes ≡ report.is_yes
   pub are_functions : v.functions ≡ map function_of report.functions.items
 
+-- the number by which what is kept of a package tells its edition
+abbrev pub edition_number : Edition → ℕ
+edition_number First = 1
+edition_number Second = 2
+
 -- what is told is what was kept of an import, when that was judged
 pub record IsToldOfRun
     {outside : List PackageEntry} (ps : List LoadedPackage) (runs : List (UnitRun outside)) (i : ℕ) (one : ImportedUnit)
@@ -51,6 +58,7 @@ pub record IsToldOfRun
   pub imports : Imports (import_list ps) i place
   pub is_path : one.path.now ≡ imported.path
   pub is_kept : IsKeptOf run.report (kept_of one)
+  pub is_edition : (kept_of one).edition ≡ edition_number imported.edition
 
 -- Each was told of the given packages that it imports, and of no others that it imports; what was kept of these; and
 -- these were judged before.

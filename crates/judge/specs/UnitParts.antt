@@ -16,7 +16,7 @@ use Rattle.judge.specs.declared.units.ReadImport.{ReadImport}
 use Rattle.judge.specs.declared.units.ReadImports.{ReadImports}
 use Rattle.judge.specs.declared.units.ToldUnit.{ToldUnit}
 use Rattle.told_reports.specs.declared.unit.UnitForm.{UnitForm}
-use Rattle.judge.specs.Units.{IsJudgedByTold, IsUnitText, NotesFollowFromTold, kept_of, name_if_any}
+use Rattle.judge.specs.Units.{IsJudgedByTold, IsUnitText, NotesFollowFromTold, counts_so, kept_of, name_if_any}
 use Rattle.meaning.specs.OuterBlocks.{or_else}
 use Rattle.meaning_reports.specs.Loaded.{LoadedPackage, Tables, import_list, imported_paths}
 use Rattle.meaning_reports.specs.PackageReports.{by_paths}
@@ -33,14 +33,18 @@ use Rattle.vetx_tables.specs.KeptTables.{table_again}
 use Rattle.whole_packages.specs.LoadedViews.{TellsPackage}
 use Rattle.whole_packages.specs.declared.loaded_package.LoadedPackage.{LoadedPackage as KeptPackage}
 
--- it is what was kept of that package
-pub record IsReadOf (one : ImportedUnit) (read : ReadImport) : Type 0 where
+-- it is what was kept of that package, which counts as given or not
+pub record IsReadAs (counted : Bool) (one : ImportedUnit) (read : ReadImport) : Type 0 where
   pub is_path : read.imported.path.now ≡ one.path.now
-  pub is_name : option_map (λ name. name.now) read.imported.name ≡ name_if_any (kept_of one).name
-  pub is_faulty : read.imported.is_faulty ≡ (kept_of one).has_whole_fault
-  pub is_table : table_view read.table ≡ table_again (kept_of one).functions
+  pub is_name :
+      option_map (λ name. name.now) read.imported.name ≡ (if counted then name_if_any (kept_of one).name else None)
+  pub is_counted : read.imported.is_counted ≡ counted
+  pub is_table : table_view read.table ≡ table_again (if counted then (kept_of one).functions else [])
   pub is_marked : MarksGivers read.table
   pub is_yes : read.is_yes ≡ (kept_of one).is_yes
+
+abbrev pub IsReadOf : ImportedUnit → ReadImport → Type 0
+IsReadOf one read = IsReadAs (counts_so (kept_of one)) one read
 
 -- the imports of the first of these
 abbrev pub first_imports : List Package → List (List ℕ)

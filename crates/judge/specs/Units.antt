@@ -1,6 +1,6 @@
 -- A package that is judged by itself, in a run of its own: by its files, by what was kept of those that it imports when
 -- they were judged, and by what is declared of others. What is said of it, and what is kept of it in turn.
-use Rattle.std.specs.Prelude.{ℕ, ◌≡◌, ◌↔◌, ⊤, Bool, true, false, List, [], ◌∷◌, map, Contains, Option, Some, None, is_some, slice_get, string_bytes}
+use Rattle.std.specs.Prelude.{ℕ, ◌≡◌, ◌↔◌, ◌==◌, ◌&&◌, ⊤, Bool, true, false, not, if◌then◌else◌, List, [], ◌∷◌, map, Contains, Option, Some, None, is_some, slice_get, string_bytes}
 use Rattle.accepting.specs.Findings.{FoundEntry, explained_package, plain_package}
 use Rattle.declared_json.specs.DeclaredPackages.{PackageEntry}
 use Rattle.declared_tables.specs.DeclaredTables.{declared_tables}
@@ -13,7 +13,7 @@ use Rattle.imports.specs.Settling.{place_from}
 use Rattle.judge.specs.declared.units.ImportedUnit.{ImportedUnit}
 use Rattle.judge.specs.declared.units.UnitReport.{UnitReport}
 use Rattle.meaning.specs.OuterBlocks.{or_else}
-use Rattle.meaning_reports.specs.Loaded.{LoadedPackage, Tables, HaveDistinctPaths, import_list, imported_paths, name_in, package_names, trees_of}
+use Rattle.meaning_reports.specs.Loaded.{LoadedPackage, Tables, HaveDistinctPaths, counts, import_list, imported_paths, name_in, package_names, trees_of}
 use Rattle.meaning_reports.specs.PackageReports.{by_paths}
 use Rattle.meaning_reports.specs.PackageTables.{IsTable}
 use Rattle.meaning_reports.specs.WholeFaults.{IsWholeFault}
@@ -23,7 +23,7 @@ use Rattle.report.specs.Entries.{Entry}
 use Rattle.report.specs.declared.notes.ExplainedPackage.{ExplainedPackage}
 use Rattle.told_reports.specs.UnitTexts.{unit_text_in}
 use Rattle.told_reports.specs.declared.unit.UnitForm.{UnitForm}
-use Rattle.vetx_json.specs.KeptUnits.{VetxEntry, function_of, vetx_of}
+use Rattle.vetx_json.specs.KeptUnits.{FunctionEntry, VetxEntry, function_of, vetx_of}
 use Rattle.vetx_tables.specs.KeptLaws.{AreKept}
 use Rattle.vetx_tables.specs.KeptTables.{function_fits, table_again}
 use Rattle.vetx_tables.specs.declared.fault.KeptFault.{KeptFault}
@@ -36,9 +36,17 @@ use Rattle.whole_packages.specs.declared.loaded_package.LoadedPackage.{LoadedPac
 abbrev pub kept_of : ImportedUnit → VetxEntry
 kept_of one = vetx_of one.vetx.now
 
+-- the package counts as given: by the number of its edition, and by whether it has a fault as a whole
+abbrev pub counts_so : VetxEntry → Bool
+counts_so v = not (v.has_whole_fault && v.edition == 2)
+
+-- where it does not, nothing is known of its functions
+abbrev pub functions_so : VetxEntry → List FunctionEntry
+functions_so v = if counts_so v then v.functions else []
+
 -- the table that is made of what was kept, and the verdict
 abbrev pub told_by_vetx : VetxEntry → Told
-told_by_vetx v = record { table = table_again v.functions; is_yes = v.is_yes }
+told_by_vetx v = record { table = table_again (functions_so v); is_yes = v.is_yes }
 
 -- what is told of the package of that path, by the first that has it
 abbrev pub told_of_path : List ImportedUnit → List ℕ → Option Told
@@ -63,12 +71,16 @@ abbrev pub name_or_empty : Option (List ℕ) → List ℕ
 name_or_empty None = []
 name_or_empty (Some name) = name
 
--- the package of its path is given, and what is told of its name is right, and whether it has a fault as a whole
+-- one that counts as not given has none either
+abbrev pub name_so : VetxEntry → Option (List ℕ)
+name_so v = if counts_so v then name_if_any v.name else None
+
+-- the package of its path is given, and what is told of its name is right, and whether it counts as given
 pub record IsRightlyTold (ps : List LoadedPackage) (one : ImportedUnit) : Type 0 where
   pub place : ℕ
   pub is_place : place_from one.path.now (import_list ps) 0 ≡ Some place
-  pub is_name : name_if_any (kept_of one).name ≡ package_names ps one.path.now
-  pub is_fault : ((kept_of one).has_whole_fault ≡ true) ↔ ((x : Entry) × IsWholeFault ps place x)
+  pub is_name : name_so (kept_of one) ≡ package_names ps one.path.now
+  pub is_counted : counts_so (kept_of one) ≡ counts (slice_get ps place)
 
 -- so it is of those that the package imports, and each given package that it imports is told of
 pub record AreImportsTold (ps : List LoadedPackage) (p : LoadedPackage) (told : List ImportedUnit) : Type 0 where

@@ -1,16 +1,17 @@
 //! The report of a package that is judged by itself, by what was kept of those that it imports.
 
-ghost use Rattle.std.specs.Prelude.{◌≡◌, List, IfErr, IfOk, map, option_map, slice_get, string_bytes};
+ghost use Rattle.std.specs.Prelude.{◌≡◌, true, false, List, IfErr, IfOk, map, option_map, slice_get, string_bytes};
 ghost use Rattle.std.specs.List.{AllZip};
 ghost use Rattle.declared_json.specs.DeclaredPackages.{packages_of, PackageEntry};
 ghost use Rattle.declared_tables.specs.DeclaredTables.{declared_tables};
 ghost use Rattle.imports.specs.Views.{packages_view, text_views};
-ghost use Rattle.judge.specs.Units.{name_if_any, name_or_empty, IsUnitFault, IsUnitReport};
-ghost use Rattle.judge.specs.UnitParts.{first_imports, is_named, named_among, package_in, told_by_read, IsGivenAlone, IsReadOf, IsToldUnit, SaysByNear, SaysByRead};
+ghost use Rattle.judge.specs.Units.{counts_so, name_if_any, name_or_empty, IsUnitFault, IsUnitReport};
+ghost use Rattle.judge.specs.UnitParts.{first_imports, is_named, named_among, package_in, told_by_read, IsGivenAlone, IsReadAs, IsReadOf, IsToldUnit, SaysByNear, SaysByRead};
 ghost use Rattle.meaning_reports.specs.Loaded.{name_in};
 ghost use Rattle.one_package.specs.Neighbours.{nearby_view};
 ghost use Rattle.one_package.specs.Results.{KnowsAll};
 ghost use Rattle.tree.specs.View.{file_syntax};
+ghost use Rattle.vetx_json.specs.KeptUnits.{vetx_of};
 ghost use Rattle.whole_packages.specs.WholeEntries.{is_set};
 
 use accepting::{explained_package, plain_package};
@@ -29,6 +30,9 @@ use tree::File;
 use vetx_json::{KeptFunction, Vetx};
 use vetx_tables::{KeptFault, kept_functions, table_again};
 use whole_packages::LoadedPackage;
+
+/// The number of the second edition.
+const SECOND: u32 = 2;
 
 /// What a package that is judged by itself is told of one that it imports: what was kept of that when it was judged.
 #[derive(Clone, Copy)]
@@ -81,20 +85,53 @@ fn name_if_any(name: &str) -> Option<&str>
     if name.is_empty() { None } else { Some(name) }
 }
 
-/// Reads what was kept of an imported package.
-fn read_import<'a>(alloc: Global, one: &ImportedUnit<'a>) -> Result<ReadImport<'a>, AllocError>
-    ensures { IfOk result (IsReadOf one.now) }
+/// Whether the package counts as given of which this was kept: by the second edition only without a fault as a whole.
+fn counts(vetx: &Vetx) -> bool
+    ensures { result ≡ counts_so (vetx_of vetx.now) }
+{
+    !(vetx.has_whole_fault && vetx.edition == SECOND)
+}
+
+/// Reads what was kept of an imported package that counts as given.
+fn read_counted<'a>(alloc: Global, one: &ImportedUnit<'a>) -> Result<ReadImport<'a>, AllocError>
+    ensures { IfOk result (IsReadAs true one.now) }
 {
     let vetx = one.vetx;
     Ok(ReadImport {
         imported: ImportedPackage {
             path: one.path,
             name: name_if_any(&vetx.name),
-            is_faulty: vetx.has_whole_fault,
+            is_counted: true,
         },
         table: table_again(alloc, &vetx.functions)?,
         is_yes: vetx.is_yes,
     })
+}
+
+/// Reads what was kept of an imported package that counts as not given: nothing is known of its functions.
+fn read_passed_over<'a>(alloc: Global, one: &ImportedUnit<'a>) -> Result<ReadImport<'a>, AllocError>
+    ensures { IfOk result (IsReadAs false one.now) }
+{
+    Ok(ReadImport {
+        imported: ImportedPackage {
+            path: one.path,
+            name: None,
+            is_counted: false,
+        },
+        table: table_again(alloc, &[])?,
+        is_yes: one.vetx.is_yes,
+    })
+}
+
+/// Reads what was kept of an imported package.
+fn read_import<'a>(alloc: Global, one: &ImportedUnit<'a>) -> Result<ReadImport<'a>, AllocError>
+    ensures { IfOk result (IsReadOf one.now) }
+{
+    if counts(one.vetx) {
+        read_counted(alloc, one)
+    } else {
+        read_passed_over(alloc, one)
+    }
 }
 
 fn is_named(paths: &[&str], path: &str) -> bool

@@ -1,3 +1,4 @@
+pub mod CountedPackages
 pub mod EntryFiles
 pub mod EntryOrder
 pub mod ImportsOf

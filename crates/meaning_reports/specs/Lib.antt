@@ -9,3 +9,4 @@ pub mod PackageReports
 -- What is proved of them.
 pub mod OneReport
 pub mod EntryFiles
+pub mod CountedPackages

@@ -1,14 +1,15 @@
 -- Packages as they were read: each has a path, the edition by which it is judged, and files. Of each file there is a
 -- tree, or else why there is none and where. What is known in a tree comes from all trees of its package, the names of
--- all packages that were given, and the tables of those that the package imports.
-use Rattle.std.specs.Prelude.{ℕ, ◌+◌, ◌≡◌, Bool, false, if◌then◌else◌, List, [], ◌∷◌, map, flat_map, Option, Some, None, slice_get}
-use Rattle.std.specs.List.{list_any}
+-- all packages that count as given, and the tables of those that the package imports.
+use Rattle.std.specs.Prelude.{ℕ, ◌+◌, ◌≡◌, ◌&&◌, Bool, true, false, not, if◌then◌else◌, is_some, List, [], ◌∷◌, map, flat_map, Option, Some, None, slice_get}
+use Rattle.std.specs.List.{list_all, list_any}
 use Rattle.std.specs.Str.{bytes_eq}
 use Rattle.tree.specs.declared.edition.Edition.{Edition}
 use Rattle.tree.specs.declared.edition.Edition.TheVariants.{First, Second}
 use Rattle.tree.specs.Syntax.{ImportSpec, SourceFile}
 use Rattle.meaning.specs.OuterBlocks.{PackageNames, specs_of}
 use Rattle.meaning.specs.Declarations.{declaration_of_use}
+use Rattle.meaning.specs.TwoFunctions.{second_function}
 use Rattle.meaning.specs.FunctionFacts.{Meanings, FunctionFacts, package_facts}
 use Rattle.meaning.specs.Tracked.{Fields, each_field, these_fields, Known}
 use Rattle.meaning.specs.Uses.{Seen}
@@ -58,6 +59,30 @@ numbered_trees p = trees_from 0 p.files
 abbrev pub trees_of : LoadedPackage → List SourceFile
 trees_of p = map (λ t. t.tree) (numbered_trees p)
 
+-- Which packages count as given
+
+abbrev pub is_read : Reading → Bool
+is_read (has_tree tree) = true
+is_read (has_text_fault at why) = false
+is_read (has_tree_fault at why) = false
+
+-- each of its files has a tree, and no two of its functions have one name
+abbrev pub is_whole : LoadedPackage → Bool
+is_whole p = list_all is_read p.files && not (is_some (second_function (trees_of p)))
+
+abbrev pub counts_by : Edition → Bool → Bool
+counts_by First whole = true
+counts_by Second whole = whole
+
+-- In the second edition a package that isn't so counts as not given for all that import it. (One without a rank need
+-- not be among these: nothing is said of those that import it but that they have none.)
+abbrev pub counts_as_given : LoadedPackage → Bool
+counts_as_given p = counts_by p.edition (is_whole p)
+
+abbrev pub counts : Option LoadedPackage → Bool
+counts None = false
+counts (Some p) = counts_as_given p
+
 -- Imports
 
 abbrev pub imports_of : SourceFile → List ImportSpec
@@ -80,9 +105,10 @@ abbrev pub name_in : List SourceFile → Option (List ℕ)
 name_in [] = None
 name_in (tree ∷ trees) = Some tree.package_name.text
 
+-- one that counts as not given has none
 abbrev pub name_of : Option LoadedPackage → Option (List ℕ)
 name_of None = None
-name_of (Some p) = name_in (trees_of p)
+name_of (Some p) = if counts_as_given p then name_in (trees_of p) else None
 
 abbrev pub package_names : List LoadedPackage → PackageNames
 package_names ps path = name_of (package_at path ps)

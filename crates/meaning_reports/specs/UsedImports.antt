@@ -1,17 +1,16 @@
--- Which imports a package needs to be yes. In the first edition each; in the second those whose functions nobody knows,
--- since the imported package has a fault of the whole package, and those that it uses: to whose functions it passes a
--- cancel variable or lends a group. What it obtains from an import's function asks nothing of that package: it may be
--- any cancel function, or none. So an import that isn't used may do what it likes.
+-- Which imports a package needs to be yes. In the first edition each; in the second those that it uses: to whose
+-- functions it passes a cancel variable or lends a group. One that counts as not given is not needed: what is passed to
+-- it or lent to it may become of anything, as by a package that was not given. What a package obtains from an import's
+-- function asks nothing of that import: it may be any cancel function, or none. So an import that isn't used may do
+-- what it likes.
 -- (This tool's rules.)
-use Rattle.std.specs.Prelude.{ℕ, ◌≡◌, List, Some, slice_get, Contains}
+use Rattle.std.specs.Prelude.{ℕ, ◌≡◌, true, List, Some, slice_get, Contains}
 use Rattle.tree.specs.declared.edition.Edition.TheVariants.{First}
 use Rattle.meaning.specs.Mentions.{BodyPlace}
 use Rattle.meaning.specs.Uses.{Callee, VariableAt, Event, pass, defer_pass, lend, Seen}
 use Rattle.meaning.specs.BodyEvents.{bodies_of, events_at}
-use Rattle.report.specs.Entries.{Entry}
 use Rattle.imports.specs.Ranks.{Imports}
-use Rattle.meaning_reports.specs.Loaded.{LoadedPackage, Tables, import_list, seen_files}
-use Rattle.meaning_reports.specs.WholeFaults.{IsWholeFault}
+use Rattle.meaning_reports.specs.Loaded.{LoadedPackage, Tables, counts, counts_as_given, import_list, seen_files}
 
 -- the event passes a cancel variable to the function, whether that is known to call it or not, or lends a group to it
 pub data HandsTo (f : Callee) : Event → Type 0 where
@@ -38,10 +37,11 @@ pub record IsUsed (ps : List LoadedPackage) (tables : Tables) (i : ℕ) (path : 
   pub is_of_path : callee.path ≡ Some path
   pub hands : HandsThere file callee
 
--- the package `i` imports the package `j`, and uses it
+-- the package `i` imports the package `j`, which counts as given, and uses it
 pub record Uses (ps : List LoadedPackage) (tables : Tables) (i j : ℕ) : Type 0 where
   pub imported : LoadedPackage
   pub is_imported : slice_get ps j ≡ Some imported
+  pub is_counted : counts_as_given imported ≡ true
   pub imports : Imports (import_list ps) i j
   pub is_used : IsUsed ps tables i imported.path
 
@@ -51,5 +51,4 @@ pub data IsNeeded (ps : List LoadedPackage) (tables : Tables) (i j : ℕ) (path 
       → slice_get ps i ≡ Some importer
       → importer.edition ≡ First
       → IsNeeded ps tables i j path
-  has_whole_fault : {x : Entry} → IsWholeFault ps j x → IsNeeded ps tables i j path
-  is_used : IsUsed ps tables i path → IsNeeded ps tables i j path
+  is_used : counts (slice_get ps j) ≡ true → IsUsed ps tables i path → IsNeeded ps tables i j path

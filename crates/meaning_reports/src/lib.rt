@@ -1,6 +1,7 @@
 //! What is to be said of packages that were loaded: definitions, and laws. It runs nothing.
 #![tactic(auto)]
 
+ghost use Rattle.meaning_reports.specs.CountedPackages.{CountingIsByFaults};
 ghost use Rattle.meaning_reports.specs.EntryFiles.{EntriesAreOfFiles};
 ghost use Rattle.meaning_reports.specs.OneReport.{OneReport};
 
@@ -13,4 +14,10 @@ pub fn one_report()
 /// Each entry of a report is of a file of its package.
 pub fn entries_are_of_files()
     ensures { EntriesAreOfFiles }
+{}
+
+/// A package counts as given, for those that import it, in the first edition always, and in the second where it has no
+/// fault as a whole but imports without a rank.
+pub fn counting_is_by_faults()
+    ensures { CountingIsByFaults }
 {}

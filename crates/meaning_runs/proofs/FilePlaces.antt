@@ -28,7 +28,7 @@ use Rattle.meaning_runs.proofs.BodyOffsetsTokens.{Ordered, first_ordered, tokens
 use Rattle.meaning_runs.proofs.BodyOffsetsRules.{Gives, gives_token, gives_semicolon, gives_identifier, first_under}
 use Rattle.meaning_runs.proofs.BodyOffsetsParts.{gives_import_name}
 use Rattle.meaning_runs.proofs.BodyOffsets.{import_spec, imports, receiver, top_level}
-use Rattle.meaning_runs.proofs.KnownFlags.{second_among}
+use Rattle.meaning_reports.proofs.CountedPackages.{second_among}
 
 -- Places among the tokens of a text
 

@@ -21,7 +21,7 @@ use Rattle.meaning.specs.Uses.{Callee, path_meant, callee_of, VariableAt, Seen, 
 use Rattle.meaning.specs.BodyEvents.{mark_events, handed_on, seen_file}
 use Rattle.meaning.proofs.Membership.{contains_here, contains_there, contains_cases, contains_nil, contains_map}
 use Rattle.imports.specs.Ranks.{Package}
-use Rattle.meaning_reports.specs.Loaded.{LoadedPackage, HaveDistinctPaths, Tables, trees_of, imports_of, imported_paths, package_names, means_in, known_in, seen_from, seen_files}
+use Rattle.meaning_reports.specs.Loaded.{LoadedPackage, HaveDistinctPaths, Tables, counts, counts_as_given, trees_of, imports_of, imported_paths, package_names, means_in, known_in, seen_from, seen_files}
 use Rattle.meaning_reports.specs.UsedImports.{HandsTo, passes, defers, lends, HandsThere, Uses}
 use Rattle.meaning_reports.proofs.ImportsOf.{gives, in_lists, given_in_lists, list_item}
 use Rattle.meaning_runs.specs.Bodies.{Program, Body, IsRun, IsOf, IsNamed}
@@ -428,10 +428,12 @@ module _ (p : Program) (distinct : HaveDistinctPaths p.packages) (closed : AreCl
       → f.path ≡ Some path
       → slice_get p.packages home ≡ Some named
       → named.path ≡ path
+      → counts_as_given named ≡ true
       → Uses p.packages p.tables b.home home
-  uses_it b of f path home named hands is there same = record {
+  uses_it b of f path home named hands is there same counted = record {
     imported = named;
     is_imported = there;
+    is_counted = counted;
     imports = record {
       importer = list_item p.packages of.loaded;
       imported = list_item p.packages named;
@@ -457,13 +459,14 @@ module _ (p : Program) (distinct : HaveDistinctPaths p.packages) (closed : AreCl
   }
 
   pub stays_trusted : (b : Body) (of : IsOf p b) (f : Callee) (home : ℕ) → HandsThere b.file f → IsNamed p b.home f.path home
+      → counts (slice_get p.packages home) ≡ true
       → IsRun p home
-  stays_trusted b of f home hands named = by f.path refl named
+  stays_trusted b of f home hands named counted = by f.path refl named
     where
       by : (o : Option (List ℕ)) → f.path ≡ o → IsNamed p b.home o home → IsRun p home
       by None is its = subst (λ n. IsRun p n) (sym its) of.is_run
-      by (Some path) is its = closed b.home home of.is_run (uses_it b of f path home its.0 hands is its.1 its.2)
+      by (Some path) is its = closed b.home home of.is_run (uses_it b of f path home its.0 hands is its.1 its.2 (sym (ap counts its.1) ∙ counted))
 
 pub hands_stay_trusted : HandsStayTrusted
-hands_stay_trusted p b t o f home distinct closed of reached hands named =
-    stays_trusted p distinct closed b of f home (hands_there b of.is_body f t o reached hands) named
+hands_stay_trusted p b t o f home distinct closed of reached hands named counted =
+    stays_trusted p distinct closed b of f home (hands_there b of.is_body f t o reached hands) named counted

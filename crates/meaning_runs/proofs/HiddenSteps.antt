@@ -9,14 +9,14 @@ use Rattle.meaning.proofs.Membership.{contains_cases, contains_nil}
 use Rattle.meaning_reports.specs.Loaded.{HaveDistinctPaths}
 use Rattle.meaning_reports.specs.UsedImports.{passes, defers, lends as lends_it}
 use Rattle.meaning_runs.specs.Bodies.{Program}
-use Rattle.meaning_runs.specs.Promise.{AreClosed, all_run}
+use Rattle.meaning_runs.specs.Promise.{all_run}
 use Rattle.meaning_runs.specs.World.{Value, nothing, cancel_function, outside, frame_at, Place, Store, put_at, IsAny, any_nothing, any_function, IsOutside, outside_none, outside_group, IsEarlier, calling, ending, waiting_for, with_group, with_cells, AreForeign, binding, binding_group, binds, held, held_group, kept_value, without_kept, handed_by as handed_value, own_cell, Given, Lent, Passing, Closure, saved_call, saved_pass, saved_literal, saved_wait, runs, exits, InObject, Frame, World, new_frame, nothing_around}
 use Rattle.meaning_runs.specs.Steps.{GoesOn, at_code, Obtains, new_one, earlier_one, none_at_all, with_function, Makes, zero_group, with_context, evaluating, lending, IsLentTo, ComesToCall, at_once, saved_before, Begins, of_function, of_none, Acts, moves_on, does_other, obtains_one, obtains_into, keeps_one, renews_object, calls_kept, saves_kept, gives_object, gives_in_field, clears_one, calls_one, saves_call, makes_group, tries_nothing, ends_wait, saves_wait, evaluates, evaluates_deferred, lends, makes_call, calls_outside, saves_pass, saves_literal, comes_to_return, runs_call, runs_pass, runs_literal, runs_wait, returns_now, Surrounds, starts, makes_cells, makes_one, ends_one, calls_any, makes_outside, of_environment}
 use Rattle.meaning_runs.specs.Runs.{Run, step_more}
 use Rattle.meaning_runs.proofs.CallSteps.{AreAny, any_held, obtaining}
 use Rattle.meaning_runs.proofs.Contexts.{put_at-same}
 use Rattle.meaning_runs.proofs.NamedOutermost.{named_is_outermost}
-use Rattle.meaning_runs.proofs.Shown.{Shadow, shadow_store, IsOut, IsShadow, Grown, FinePass, FineCells, T, FineFrame, FineKept, kept_any, kept_more, kept_less, any_grows, tops, FineStack, cells_grow, frame_grows, new_is_fine, group_out, with_new_cells, cells_grown, cells_shown}
+use Rattle.meaning_runs.proofs.Shown.{AreAmong, Shadow, shadow_store, IsOut, IsShadow, Grown, FinePass, FineCells, T, FineFrame, FineKept, kept_any, kept_more, kept_less, any_grows, tops, FineStack, cells_grow, frame_grows, new_is_fine, group_out, with_new_cells, cells_grown, cells_shown}
 use Rattle.meaning_runs.proofs.ShownCells.{newest_behind, with_empty, value_hidden, group_hidden}
 use Rattle.meaning_runs.proofs.ShownActs.{earlier_shown, any_shown, outside_shown, no_context, calling_contextual, waiting_contextual, obtains_contextual, makes_contextual, group_made, grown_then, keeps_now, goes_on, saves_more, pops, popped, waits_no_more, saves_its_pass, returns, joins}
 use Rattle.meaning_runs.proofs.ShownSteps.{chosen_true, chosen_false, W, put_none, of_run, foreign_shown, out_of, literal_fine, handed_by}
@@ -71,7 +71,7 @@ below_earlier : (s : Store) (context : Option ℕ) → ((b : ℕ) → context �
 below_earlier s None h = tt
 below_earlier s (Some b) h = h b refl
 
-module _ (p : Program) (closed : AreClosed p) (distinct : HaveDistinctPaths p.packages)
+module _ (p : Program) (closed : AreAmong p) (distinct : HaveDistinctPaths p.packages)
     (s : Store) (x : Shadow) (is : IsShadow s x) (kept : AreAny s) (f : Frame) (it : FineFrame p s x f)
     (hidden : T p f.body.home ≡ false) (g : ℕ) where
   abbrev S : Store

@@ -6,19 +6,16 @@ use Rattle.std.specs.Prelude.{if◌then◌else◌, slice_get}
 use Rattle.std.specs.Str.{bytes_eq}
 use Rattle.std.proofs.lemmas.Option.{none-some, same_Some}
 use Rattle.std.proofs.lemmas.Slice.Eq.{bytes_eq-Decides}
-use Rattle.std.proofs.lemmas.List.Elements.{Contains-append_cases}
-use Rattle.tree.specs.Syntax.{TopLevelDeclaration, function_declaration, general_declaration}
-use Rattle.meaning.specs.OuterBlocks.{can_be_meant}
-use Rattle.meaning.specs.TwoFunctions.{FunctionName, function_names_in, function_names_from, is_called_before, second_after, second_function}
+use Rattle.meaning.specs.TwoFunctions.{function_names_from}
 use Rattle.meaning.specs.Uses.{Callee, Seen}
 use Rattle.meaning.specs.BodyEvents.{Variable, own_parameter}
 use Rattle.meaning.proofs.Membership.{contains_here, contains_there, contains_cases, contains_nil}
 use Rattle.meaning_packages.specs.Credits.{AreFairCredits}
 use Rattle.meaning_packages.specs.CallsFlags.{FileWithCredits, flag_of, is_function}
 use Rattle.imports.specs.Ranks.{Package, Imports}
-use Rattle.meaning_reports.specs.Loaded.{LoadedPackage, NumberedTree, numbered_trees, trees_of, imported_paths, import_list, is_imported, no_table, PackageTable, imported_flags, known_in, seen_files}
+use Rattle.meaning_reports.specs.Loaded.{LoadedPackage, counts_as_given, trees_of, imported_paths, import_list, is_imported, no_table, PackageTable, imported_flags, known_in, seen_files}
 use Rattle.meaning_reports.specs.UsedImports.{HandsThere, Uses}
-use Rattle.meaning_reports.specs.WholeFaults.{HasNoWholeFault, has_two_functions}
+use Rattle.meaning_reports.proofs.CountedPackages.{no_second}
 use Rattle.meaning_reports.proofs.ImportsOf.{has_path, list_item, in_lists, given_in_lists}
 use Rattle.meaning_runs.specs.Bodies.{Program, Body, IsRun, IsOf, IsNamed}
 use Rattle.meaning_runs.specs.Promise.{AreFairlyCredited, no_file, file_and, AreWellKnown}
@@ -27,58 +24,6 @@ use Rattle.meaning_runs.proofs.NamedBodies.{AreApart, apart, one_body}
 
 not_both : {b : Bool} → b ≡ false → b ≡ true → ⊥
 not_both e g = let bad : false ≡ true = sym e ∙ g in cc
-
--- No two functions of one name
-
-in_file : (n : ℕ) (ds : List TopLevelDeclaration) (f : FunctionName) → Contains (function_names_in n ds) f → f.file ≡ n
-in_file n [] f h = absurd (contains_nil f h)
-in_file n (general_declaration d ∷ ds) f h = in_file n ds f h
-in_file n (function_declaration g ∷ ds) f h = by (can_be_meant g) h (in_file n ds f)
-  where
-    by : (b : Bool) → Contains (if b then record { file = n; name = g.name } ∷ function_names_in n ds else function_names_in n ds) f → (Contains (function_names_in n ds) f → f.file ≡ n) → f.file ≡ n
-    by false k go = go k
-    by true k go = elim (contains_cases _ f (function_names_in n ds) k) [
-      | inl q ↦ ap (λ (x : FunctionName). x.file) (sym q)
-      | inr r ↦ go r
-    ]
-
-record HasTree (n : ℕ) (ts : List NumberedTree) (f : FunctionName) : Type 0 where
-  place : ℕ
-  tree : NumberedTree
-  is_place : f.file ≡ n + place
-  is_there : slice_get ts place ≡ Some tree
-
-has_tree_there : (n : ℕ) (ts : List NumberedTree) (f : FunctionName) → Contains (function_names_from n (map (λ (t : NumberedTree). t.tree) ts)) f → HasTree n ts f
-has_tree_there n [] f h = absurd (contains_nil f h)
-has_tree_there n (t ∷ ts) f h =
-    elim (Contains-append_cases (function_names_in n t.tree.declarations) (function_names_from (n + 1) (map (λ (x : NumberedTree). x.tree) ts)) f h) [
-      | inl r ↦
-          let same : n ≡ n + 0 = omega arith in
-          record { place = 0; tree = t; is_place = in_file n t.tree.declarations f r ∙ same; is_there = refl }
-      | inr r ↦
-          let w = has_tree_there (n + 1) ts f r in
-          let same : (n + 1) + w.place ≡ n + suc w.place = omega arith in
-          record { place = suc w.place; tree = w.tree; is_place = w.is_place ∙ same; is_there = w.is_there }
-    ]
-
-pub second_among : (earlier fs : List FunctionName) (f : FunctionName) → second_after earlier fs ≡ Some f → Contains fs f
-second_among earlier [] f e = absurd (none-some f e)
-second_among earlier (x ∷ xs) f e = by (is_called_before x earlier) e (second_among (x ∷ earlier) xs f)
-  where
-    by : (b : Bool) → (if b then Some x else second_after (x ∷ earlier) xs) ≡ Some f → (second_after (x ∷ earlier) xs ≡ Some f → Contains xs f) → Contains (x ∷ xs) f
-    by true q go = subst (λ y. Contains (x ∷ xs) y) (same_Some x f q) (contains_here x xs)
-    by false q go = contains_there x f xs (go q)
-
-pub no_second : (ps : List LoadedPackage) (i : ℕ) (q : LoadedPackage) → slice_get ps i ≡ Some q → HasNoWholeFault ps i → second_function (trees_of q) ≡ None
-no_second ps i q is none = by (second_function (trees_of q)) refl
-  where
-    by : (o : Option FunctionName) → second_function (trees_of q) ≡ o → second_function (trees_of q) ≡ None
-    by None e = e
-    by (Some f) e =
-        let w = has_tree_there 0 (numbered_trees q) f (second_among [] (function_names_from 0 (trees_of q)) f e) in
-        let same : 0 + w.place ≡ w.place = omega arith in
-        let there : slice_get (numbered_trees q) f.file ≡ Some w.tree = ap (slice_get (numbered_trees q)) (w.is_place ∙ same) ∙ w.is_there in
-        absurd (none _ (has_two_functions q f w.tree is e there))
 
 -- Files
 
@@ -218,13 +163,17 @@ module _ (p : Program) (known : AreWellKnown p) where
           ∙ (sym (ap (λ (t : PackageTable). t.calls f.name k) (known.of_others path none)) ∙ e);
     }
 
-    of_first : (path : List ℕ) → f.path ≡ Some path → is_imported loaded path ≡ true → (p.tables path).calls f.name k ≡ true → First path p.packages ⊎ IsNone path p.packages → TakesUp p b f k
-    of_first path q im e (inr none) = of_declared path q e none
-    of_first path q im e (inl first) =
+    -- the first package of the path: of one that counts as not given no flag is known
+    of_given : (path : List ℕ) → f.path ≡ Some path → is_imported loaded path ≡ true → (p.tables path).calls f.name k ≡ true → (first : First path p.packages) → (counted : Bool) → counts_as_given first.found ≡ counted → TakesUp p b f k
+    of_given path q im e first false counted =
+        let flag : (p.tables first.found.path).calls f.name k ≡ true = subst (λ x. (p.tables x).calls f.name k ≡ true) (sym first.same) e in
+        absurd (not_both (known.of_passed_over first.place first.found first.is_there counted f.name k) flag)
+    of_given path q im e first true counted =
         let flag : (other : LoadedPackage) → other.path ≡ path → (p.tables other.path).calls f.name k ≡ true = λ other same. subst (λ x. (p.tables x).calls f.name k ≡ true) (sym same) e in
         let uses : Uses p.packages p.tables b.home first.place = record {
           imported = first.found;
           is_imported = first.is_there;
+          is_counted = counted;
           imports = imports_first p.packages b.home loaded path is im first;
           is_used = record {
             user = of.loaded;
@@ -248,6 +197,10 @@ module _ (p : Program) (known : AreWellKnown p) where
             has_name = h.named;
           });
         }
+
+    of_first : (path : List ℕ) → f.path ≡ Some path → is_imported loaded path ≡ true → (p.tables path).calls f.name k ≡ true → First path p.packages ⊎ IsNone path p.packages → TakesUp p b f k
+    of_first path q im e (inr none) = of_declared path q e none
+    of_first path q im e (inl first) = of_given path q im e first (counts_as_given first.found) refl
 
     of_path : (o : Option (List ℕ)) → f.path ≡ o → flag_of (p.tables loaded.path).calls (imported_flags loaded p.tables) o f.name k ≡ true → TakesUp p b f k
     of_path None q e = of_this q e

@@ -2,15 +2,16 @@
 -- others: what these do, the environment does. This says what is shown of a store and of its frames, and that it stays so
 -- where the store grows.
 use Rattle.std.proofs.Common.{◌≡◌, ℕ, ◌≤◌, ◌<◌, inl, inr, Bool, true, false, List, [], ◌∷◌, Option, Some, None, Contains, refl, sym, ap, subst, ◌∙◌, arith}
-use Rattle.std.specs.Prelude.{if◌then◌else◌, not}
+use Rattle.std.specs.Prelude.{if◌then◌else◌, not, slice_get}
 use Rattle.std.proofs.lemmas.Bool.{cases_eq}
 use Rattle.std.proofs.lemmas.Option.{none-some, same_Some}
 use Rattle.meaning.specs.Code.{Occurrence, Code}
 use Rattle.meaning.specs.Uses.{Event}
 use Rattle.meaning.proofs.Membership.{contains_nil, contains_here, contains_there, contains_cases}
+use Rattle.meaning_reports.specs.Loaded.{LoadedPackage, counts_as_given}
 use Rattle.meaning_reports.specs.UsedImports.{HandsThere}
-use Rattle.meaning_runs.specs.Bodies.{Program, Body, IsOf, code_of, is_parameter_of, is_captured_by}
-use Rattle.meaning_runs.specs.Promise.{all_run}
+use Rattle.meaning_runs.specs.Bodies.{Program, Body, IsRun, IsOf, code_of, is_parameter_of, is_captured_by}
+use Rattle.meaning_runs.specs.Promise.{AreClosed, all_run}
 use Rattle.meaning_runs.specs.EventSources.{HasSource, says_nothing, falls_off, of_mark}
 use Rattle.meaning_runs.specs.World.{Value, Maker, outside, Store, put_at, IsAny, any_nothing, with_cells, in_cell, group_in_cell, Given, Lent, Passing, Closure, Saved, saved_call, saved_pass, saved_literal, saved_wait, Stage, runs, InObject, Frame, is_in, kept_value, without_kept, new_frame}
 use Rattle.meaning_runs.specs.Moves.{Moves, happens, first_moves, first_is_done, first_leaves, picks_first, picks_second, turns, inside, gets_there, goes_past, gets_out}
@@ -83,6 +84,15 @@ kept_more s ks k any h j c = elim (contains_cases k j ks c) [
 
 pub kept_less : (s : Store) (ks : List InObject) (v x : ℕ) → FineKept s ks → FineKept s (without_kept ks v x)
 kept_less s ks v x h j c = h j (unfiltered (λ k. not (is_in v x k)) ks j c).0
+
+-- The packages that run are those that count as given, or some of these, among which is each to which they hand
+-- something.
+pub record AreAmong (p : Program) : Type 0 where
+  pub are_closed : AreClosed p
+  pub are_counted : (home : ℕ) (q : LoadedPackage)
+      → IsRun p home
+      → slice_get p.packages home ≡ Some q
+      → counts_as_given q ≡ true
 
 module _ (p : Program) where
   abbrev pub T : ℕ → Bool

@@ -8,13 +8,13 @@ use Rattle.meaning.specs.Uses.{Event}
 use Rattle.meaning.proofs.Membership.{contains_here, contains_there, contains_cases, contains_nil}
 use Rattle.meaning_reports.specs.Loaded.{HaveDistinctPaths}
 use Rattle.meaning_runs.specs.Bodies.{Program, Body, IsOf}
-use Rattle.meaning_runs.specs.Promise.{AreClosed, all_run}
+use Rattle.meaning_runs.specs.Promise.{all_run}
 use Rattle.meaning_runs.specs.World.{Value, nothing, nobody, outside, Store, put_at, ComesFrom, itself, made_from, IsDone, IsEarlier, with_new, calling, ending, cancel_function, with_group, IsAny, any_nothing, any_function, IsOutside, outside_none, outside_group, with_member, with_cells, AreForeign, Passing, Closure, Frame, World, with_stack, new_frame, nothing_around}
 use Rattle.meaning_runs.specs.Steps.{at_code, ComesToCall, at_once, saved_before, IsFree, StartsWork, Acts, ChangesMembers, starts_member, starts_stranger, starts_outside, starts_beside, leaves_group, Surrounds, starts, evaluates_literal, starts_literal, makes_cells, makes_one, ends_one, calls_any, makes_outside, joins_outside, Step, of_goroutine, of_members, of_environment}
 use Rattle.meaning_runs.specs.Runs.{Run, no_step, step_more, IsReturning, IsQuiet}
 use Rattle.meaning_runs.proofs.CallSteps.{AreKept, run_kept}
 use Rattle.meaning_runs.proofs.Contexts.{put_at-same, put_at-other}
-use Rattle.meaning_runs.proofs.Shown.{Shadow, shadow_store, IsOut, IsShadow, Grown, FinePass, FineCells, T, FineClosure, FineFrame, tops, FineStack, closure_grows, cells_grow, stack_grows, new_is_fine, at_cell, group_same, group_out, with_new_cells, cells_grown, cells_shown}
+use Rattle.meaning_runs.proofs.Shown.{AreAmong, Shadow, shadow_store, IsOut, IsShadow, Grown, FinePass, FineCells, T, FineClosure, FineFrame, tops, FineStack, closure_grows, cells_grow, stack_grows, new_is_fine, at_cell, group_same, group_out, with_new_cells, cells_grown, cells_shown}
 use Rattle.meaning_runs.proofs.ShownActs.{earlier_shown, no_context, calling_contextual, ending_contextual, new_contextual, group_made, grown_then, goes_on, popped}
 use Rattle.meaning_runs.proofs.ShownSteps.{chosen_true, chosen_false, W, put_none, of_run, no_body, foreign_shown, out_of, literal_fine, shown_acts}
 use Rattle.meaning_runs.proofs.HiddenSteps.{by_environment, hidden_acts}
@@ -119,7 +119,7 @@ module _ (p : Program) where
     pub closures : (c : Closure) → Contains w.escaped c
         → FineClosure p w.store x (T p c.literal.home) c × (T p c.literal.home ≡ true → Contains escaped c)
 
-  module _ (closed : AreClosed p) (distinct : HaveDistinctPaths p.packages) (w : World) (kept : AreKept w) (sim : Sim w) where
+  module _ (closed : AreAmong p) (distinct : HaveDistinctPaths p.packages) (w : World) (kept : AreKept w) (sim : Sim w) where
     abbrev s : Store
     s = w.store
 
@@ -514,7 +514,7 @@ module _ (p : Program) where
   nobody-outside : nobody ≡ outside → ⊥
   nobody-outside e = cc
 
-  pub run_sim : AreClosed p → HaveDistinctPaths p.packages → (w : World) → Run (all_run p) w → Sim w
+  pub run_sim : AreAmong p → HaveDistinctPaths p.packages → (w : World) → Run (all_run p) w → Sim w
   run_sim closed distinct w no_step = record {
     x = no_shadow;
     escaped = [];
@@ -551,7 +551,7 @@ module _ (p : Program) where
     done_back b d = record { context = d.context; was_ended = d.was_ended; comes_from = comes_back d.context b d.comes_from }
 
   -- where each return of a frame that is shown is quiet, where only some packages run, it is quiet in the whole program
-  pub quiet_in_all : AreClosed p → HaveDistinctPaths p.packages
+  pub quiet_in_all : AreAmong p → HaveDistinctPaths p.packages
       → ((w : World) (f : Frame) → Run p w → IsReturning w f → IsQuiet w f)
       → (w : World) (f : Frame)
       → Run (all_run p) w

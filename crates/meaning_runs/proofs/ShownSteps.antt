@@ -7,10 +7,10 @@ use Rattle.std.proofs.lemmas.Option.{none-some, same_Some}
 use Rattle.meaning.specs.Code.{Occurrence, Code}
 use Rattle.meaning.specs.Uses.{Callee, VariableAt, Handed, Event}
 use Rattle.meaning.proofs.Membership.{contains_cases, contains_nil}
-use Rattle.meaning_reports.specs.Loaded.{HaveDistinctPaths}
+use Rattle.meaning_reports.specs.Loaded.{HaveDistinctPaths, counts}
 use Rattle.meaning_reports.specs.UsedImports.{HandsTo, passes, defers, lends as lends_it, HandsThere}
 use Rattle.meaning_runs.specs.Bodies.{Program, Body, IsOf, IsLiteralIn, IsFunction}
-use Rattle.meaning_runs.specs.Promise.{AreClosed, all_run}
+use Rattle.meaning_runs.specs.Promise.{all_run}
 use Rattle.meaning_runs.specs.World.{Value, nothing, frame_at, Place, Store, put_at, IsAny, IsOutside, outside_group, calling, waiting_for, MayEndWait, with_group, with_cells, AreForeign, binding, binding_group, binds, held, held_group, kept_value, without_kept, value_handed, handed_by as handed_value, own_cell, Given, Passing, Closure, saved_call, saved_pass, saved_literal, saved_wait, runs, exits, InObject, Frame, World, new_frame, nothing_around}
 use Rattle.meaning_runs.specs.Steps.{GoesOn, ComesTo, at_code, with_function, joining, evaluating, lending, HasNoBody, Begins, of_function, of_none, Acts, moves_on, does_other, obtains_one, obtains_into, keeps_one, renews_object, calls_kept, saves_kept, gives_object, gives_in_field, clears_one, calls_one, saves_call, makes_group, tries_nothing, ends_wait, saves_wait, evaluates, evaluates_deferred, lends, makes_call, calls_outside, saves_pass, saves_literal, comes_to_return, runs_call, runs_pass, runs_literal, runs_wait, returns_now}
 use Rattle.meaning_runs.proofs.CallSteps.{AreAny, any_held, obtaining}
@@ -18,7 +18,7 @@ use Rattle.meaning_runs.proofs.Contexts.{put_at-same, put_at-other}
 use Rattle.meaning_runs.proofs.HandedEvents.{from_source}
 use Rattle.meaning_runs.proofs.HandedNames.{stays_trusted}
 use Rattle.meaning_runs.proofs.HolderSteps.{literal_is_of}
-use Rattle.meaning_runs.proofs.Shown.{Shadow, shadow_store, IsOut, IsShadow, Grown, FinePass, FineCells, T, FineClosure, FineFrame, FineKept, kept_any, kept_more, kept_less, any_grows, cells_grow, frame_grows, new_is_fine, held_same, group_same, with_new_cells, cells_grown, cells_shown}
+use Rattle.meaning_runs.proofs.Shown.{AreAmong, Shadow, shadow_store, IsOut, IsShadow, Grown, FinePass, FineCells, T, FineClosure, FineFrame, FineKept, kept_any, kept_more, kept_less, any_grows, cells_grow, frame_grows, new_is_fine, held_same, group_same, with_new_cells, cells_grown, cells_shown}
 use Rattle.meaning_runs.proofs.ShownCells.{newest_behind, with_value, with_its_group, value_shown, group_shown, marked_old}
 use Rattle.meaning_runs.proofs.ShownActs.{calling_shown, waiting_shown, may_end_shown, any_shown, was_called_shown, outside_shown, obtains_shown, makes_shown, no_context, calling_contextual, waiting_contextual, obtains_contextual, makes_contextual, group_made, frame-outside, grown_then, past_it, keeps_now, goes_on, saves_more, pops, popped, waits_no_more, saves_its_pass, returns, joins}
 
@@ -44,14 +44,14 @@ put_none st g l none empty = λ j h. at h j
       | inr ne ↦ sym (put_at-other st g l h ne)
     ]
 
-module _ (p : Program) (closed : AreClosed p) (distinct : HaveDistinctPaths p.packages) where
+module _ (p : Program) (closed : AreAmong p) (distinct : HaveDistinctPaths p.packages) where
   -- bodies and functions of packages that run
 
   pub of_run : (b : Body) → IsOf (all_run p) b → T p b.home ≡ true → IsOf p b
   of_run b of e = record { loaded = of.loaded; is_package = of.is_package; is_run = e; is_file = of.is_file; is_body = of.is_body }
 
   of_all : (b : Body) → IsOf p b → IsOf (all_run p) b
-  of_all b of = record { loaded = of.loaded; is_package = of.is_package; is_run = refl; is_file = of.is_file; is_body = of.is_body }
+  of_all b of = record { loaded = of.loaded; is_package = of.is_package; is_run = ap counts of.is_package ∙ closed.are_counted b.home of.loaded of.is_run of.is_package; is_file = of.is_file; is_body = of.is_body }
 
   pub no_body : (caller : Body) (f : Callee) → HasNoBody (all_run p) caller f → HasNoBody p caller f
   no_body caller f none b is = none b record { is_of = of_all b is.is_of; is_of_package = is.is_of_package; has_name = is.has_name }
@@ -62,7 +62,7 @@ module _ (p : Program) (closed : AreClosed p) (distinct : HaveDistinctPaths p.pa
       → IsFunction (all_run p) caller f b
       → T p b.home ≡ true
   called_is_run caller b f of e hands is =
-      stays_trusted p distinct closed caller (of_run caller of e) f b.home hands is.is_of_package
+      stays_trusted p distinct closed.are_closed caller (of_run caller of e) f b.home hands is.is_of_package is.is_of.is_run
 
   module _ (s : Store) (x : Shadow) (is : IsShadow s x) (kept : AreAny s) where
     abbrev pub S : Store

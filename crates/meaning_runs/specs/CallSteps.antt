@@ -1,11 +1,11 @@
 -- What is proved of calls that get cancel functions or groups: in every world of a run there are contents that they can
 -- give, so that they always begin; and a function without a body may start work in its groups, and comes back.
 -- (The Go specification, "Calls", "Defer statements".)
-use Rattle.std.specs.Prelude.{◌≡◌, ℕ, true, false, List, [], ◌∷◌, Some, None, Contains}
+use Rattle.std.specs.Prelude.{◌≡◌, ℕ, true, false, List, [], ◌∷◌, Some, None, slice_get, Contains}
 use Rattle.meaning.specs.Code.{Occurrence, Code}
 use Rattle.meaning.specs.Lists.{Reaches}
 use Rattle.meaning.specs.Uses.{Callee, Event}
-use Rattle.meaning_reports.specs.Loaded.{HaveDistinctPaths}
+use Rattle.meaning_reports.specs.Loaded.{HaveDistinctPaths, counts}
 use Rattle.meaning_reports.specs.UsedImports.{HandsTo}
 use Rattle.meaning_runs.specs.Bodies.{Program, Body, IsRun, IsOf, IsNamed, IsFunction, code_of}
 use Rattle.meaning_runs.specs.Promise.{AreClosed}
@@ -62,8 +62,8 @@ CallsHaveSteps = (p : Program) (w : World) (g : ℕ) (f : Frame) (others : List 
     → CallsGoOn p w g f others
 
 -- A body that runs go through hands cancel functions and groups to functions of packages that runs go through too, or
--- of none that was given. So no function of a given package is taken for one without a body because its package belongs
--- to the environment, and of such functions nothing is assumed.
+-- of none that counts as given. So no function of a package that counts is taken for one without a body because its
+-- package belongs to the environment, and of such functions nothing is assumed.
 abbrev pub HandsStayTrusted : Type 0
 HandsStayTrusted = (p : Program) (b : Body) (t : List (Occurrence Event)) (o : Occurrence Event) (f : Callee) (home : ℕ)
     → HaveDistinctPaths p.packages
@@ -72,4 +72,5 @@ HandsStayTrusted = (p : Program) (b : Body) (t : List (Occurrence Event)) (o : O
     → Reaches (code_of b) t o
     → HandsTo f o.event
     → IsNamed p b.home f.path home
+    → counts (slice_get p.packages home) ≡ true
     → IsRun p home

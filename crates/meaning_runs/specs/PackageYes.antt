@@ -1,8 +1,8 @@
--- The promise, said of a report of packages: whatever packages are given, all of them run, and under the tables of the
--- report each return of a frame of a package of which the report says nothing is quiet, in every run in which what is
--- declared of packages that were not given is true.
-use Rattle.std.specs.Prelude.{◌≡◌, ℕ, true, List, [], Some, slice_get}
-use Rattle.meaning_reports.specs.Loaded.{LoadedPackage, HaveDistinctPaths, Tables}
+-- The promise, said of a report of packages: whatever packages are given, all of them run that count as given, and
+-- under the tables of the report each return of a frame of a package of which the report says nothing is quiet, in
+-- every run in which what is declared of packages that were not given is true.
+use Rattle.std.specs.Prelude.{◌≡◌, ℕ, List, [], Option, Some, None, slice_get}
+use Rattle.meaning_reports.specs.Loaded.{LoadedPackage, HaveDistinctPaths, PackageTable, Tables, counts, no_table, package_at}
 use Rattle.meaning_reports.specs.PackageReports.{Rules, Said, IsReportBy, by_paths}
 use Rattle.meaning_runs.specs.Bodies.{Program, IsRun}
 use Rattle.meaning_runs.specs.Runs.{IsQuietProgram}
@@ -16,15 +16,25 @@ pub record IsYesIn (ps : List LoadedPackage) (report : List Said) (i : ℕ) : Ty
   pub is_said : slice_get report i ≡ Some said
   pub is_yes : said.entries ≡ []
 
--- These packages, of which all run, what these tables know of functions, what is declared of packages that are not
--- among these, and the package at that place, which is looked at.
+-- What is declared of a package that is given is passed over.
+abbrev pub if_not_given : Option LoadedPackage → PackageTable → PackageTable
+if_not_given None table = table
+if_not_given (Some p) table = no_table
+
+abbrev pub declared_beside : List LoadedPackage → Tables → Tables
+declared_beside ps declared path = if_not_given (package_at path ps) (declared path)
+
+-- These packages, what these tables know of functions, what is declared of packages that are not among these, and the
+-- package at that place, which is looked at. All run that count as given. In the second edition one with a file without
+-- a tree, or with two functions of one name, does not: so its functions are such without a body, as are those of a
+-- package that was not given, and what else it does the environment does.
 abbrev pub program_of : List LoadedPackage → Tables → Tables → ℕ → Program
 program_of ps tables declared i = record {
   packages = ps;
   tables = tables;
-  declared = declared;
+  declared = declared_beside ps declared;
   looked_at = i;
-  are_run = λ home. true;
+  are_run = λ home. counts (slice_get ps home);
 }
 
 -- the trees of the packages that runs go through are those of texts

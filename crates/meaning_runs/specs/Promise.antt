@@ -1,22 +1,23 @@
 -- What a yes promises: where nothing is to be said of the files of some packages, and among these is each given package
 -- to whose functions one of them passes a cancel function or lends a group, each return of a frame of these packages is
--- quiet, in every run. Of other given packages nothing is asked, and they run too. It is enough that tables are
--- consistent and credits fair, of these packages: they need not be the most consistent flags, or full credits.
-use Rattle.std.specs.Prelude.{◌≡◌, ℕ, true, List, [], ◌∷◌, Some, slice_get, Contains}
+-- quiet, in every run. Of other given packages nothing is asked, and they run too; but of those that count as not given
+-- no body is known. It is enough that tables are consistent and credits fair, of these packages: they need not be the
+-- most consistent flags, or full credits.
+use Rattle.std.specs.Prelude.{◌≡◌, ℕ, false, List, [], ◌∷◌, Some, slice_get, Contains}
 use Rattle.tree.specs.Syntax.{SourceFile}
 use Rattle.meaning.specs.TreeOfText.{IsTreeOf}
 use Rattle.meaning.specs.Uses.{Seen}
 use Rattle.meaning_packages.specs.Credits.{AreFairCredits}
 use Rattle.meaning_packages.specs.CallsFlags.{FileWithCredits, calls_by, AreConsistent}
 use Rattle.report.specs.Entries.{Entry}
-use Rattle.meaning_reports.specs.Loaded.{LoadedPackage, HaveDistinctPaths, Tables, imported_flags, signatures_of, trees_of, seen_files}
+use Rattle.meaning_reports.specs.Loaded.{LoadedPackage, HaveDistinctPaths, Tables, counts, counts_as_given, imported_flags, signatures_of, trees_of, seen_files}
 use Rattle.meaning_reports.specs.WholeFaults.{HasNoWholeFault}
 use Rattle.meaning_reports.specs.UsedImports.{Uses}
 use Rattle.meaning_reports.specs.PackageReports.{IsFileFinding}
 use Rattle.meaning_runs.specs.Bodies.{Program, IsRun}
 use Rattle.meaning_runs.specs.Runs.{IsQuietProgram}
 
--- To whose functions those that run pass a cancel variable or lend a group, these run too.
+-- To whose functions those that run pass a cancel variable or lend a group, these run too, if they count as given.
 abbrev pub AreClosed : Program → Type 0
 AreClosed p = (i j : ℕ) → IsRun p i → Uses p.packages p.tables i j → IsRun p j
 
@@ -44,7 +45,7 @@ AreTreesOfTexts q =
     (tree : SourceFile) → Contains (trees_of q) tree → (text : List ℕ) × IsTreeOf q.edition text tree
 
 -- So it is of each package that runs, and these use none but such. Of packages that were not given is known what is
--- declared of them.
+-- declared of them. Of those that count as not given nothing is known.
 pub record AreWellKnown (p : Program) : Type 0 where
   pub are_closed : AreClosed p
   pub of_package : (i : ℕ) (q : LoadedPackage)
@@ -55,6 +56,10 @@ pub record AreWellKnown (p : Program) : Type 0 where
   pub of_others : (path : List ℕ)
       → ((i : ℕ) (q : LoadedPackage) → slice_get p.packages i ≡ Some q → q.path ≡ path → ⊥)
       → p.tables path ≡ p.declared path
+  pub of_passed_over : (i : ℕ) (q : LoadedPackage)
+      → slice_get p.packages i ≡ Some q
+      → counts_as_given q ≡ false
+      → (name : List ℕ) (k : ℕ) → (p.tables q.path).calls name k ≡ false
 
 -- What is known of the package at that place holds, and nothing is to be said of its files, under some fair credits,
 -- perhaps others than those by which the flags of others are known.
@@ -78,11 +83,11 @@ pub record HaveNoFindings (p : Program) (IsOne : ℕ → Type 0) : Type 0 where
 abbrev pub YesIsQuiet : Type 0
 YesIsQuiet = (p : Program) → AreWellKnown p → HaveNoFindings p (IsRun p) → IsQuietProgram p
 
--- the same, where all given packages run
+-- the same, where all packages run that count as given
 abbrev pub all_run : Program → Program
-all_run p = record p { are_run = λ home. true }
+all_run p = record p { are_run = λ home. counts (slice_get p.packages home) }
 
--- So it is where all given packages run, if the one that is looked at is among these.
+-- So it is where all packages run that count as given, if the one that is looked at is among those without findings.
 abbrev pub YesIsQuietInAll : Type 0
 YesIsQuietInAll = (p : Program)
     → HaveDistinctPaths p.packages

@@ -173,7 +173,7 @@ module _ (ps : List LoadedPackage) (tables : Tables) (p : LoadedPackage) (declar
         givers = may_give known.signs;
         told = is_told known.signs;
         unranked = is_marked near.places near.unranked;
-        faulty = is_marked near.places near.faulty;
+        counted = is_marked near.places near.counted;
       })
   around_so known knows marked = record {
     are_names = tells.are_names;
@@ -182,5 +182,5 @@ module _ (ps : List LoadedPackage) (tables : Tables) (p : LoadedPackage) (declar
     are_givers = givers_so (signs_by_path known.signs) knows.are_signs marked;
     are_told = told_so (signs_by_path known.signs) knows.are_signs;
     are_unranked = tells.are_unranked;
-    are_faulty = tells.are_faulty;
+    are_counted = tells.are_counted;
   }

@@ -11,7 +11,7 @@ use Rattle.meaning.specs.Grammar.{dot_text}
 use Rattle.meaning.specs.OuterBlocks.{is_first_path}
 use Rattle.report.specs.Entries.{Entry}
 use Rattle.meaning_reports.specs.Loaded.{LoadedPackage, NumberedTree, Tables, numbered_trees, imported_paths, imports_of, imported_tables}
-use Rattle.meaning_reports.specs.DotImports.{SaysSomething, as_library, by_table, by_fault, IsLeftOut, dot_entry}
+use Rattle.meaning_reports.specs.DotImports.{SaysSomething, as_library, by_table, IsLeftOut, dot_entry}
 use Rattle.meaning_reports.proofs.ImportsOf.{gives, given_by, only_one}
 use Rattle.whole_packages.specs.declared.loaded_package.LoadedPackage.{LoadedPackage as KeptPackage}
 use Rattle.whole_packages.specs.WholeEntries.{dot_entries, dot_if, spec_dots, tree_dots}
@@ -34,38 +34,29 @@ second_true false b e = e
 -- of what the package imports it tells of which packages a name says something
 abbrev pub Says : List LoadedPackage → Tables → LoadedPackage → (List ℕ → Bool) → Type 0
 Says ps tables p says = (path : List ℕ) → Contains (imported_paths p) path
-    → (says path ≡ true) ↔ SaysSomething ps (imported_tables p tables) path
+    → (says path ≡ true) ↔ SaysSomething (imported_tables p tables) path
 
 -- What is known around a package tells it
 
 module _ (ps : List LoadedPackage) (tables : Tables) (p : LoadedPackage) (around : Surroundings)
-    (known : KnownAround ps tables p around) (path : List ℕ) (names : Contains (imported_paths p) path) where
-  is_said : says_something around path ≡ true → SaysSomething ps (imported_tables p tables) path
+    (known : KnownAround ps tables p around) (path : List ℕ) where
+  is_said : says_something around path ≡ true → SaysSomething (imported_tables p tables) path
   is_said e =
-      elim (either_true (is_first_path path) (around.told path || around.faulty path) e) [
+      elim (either_true (is_first_path path) (around.told path) e) [
         | inl library ↦ as_library library
-        | inr rest ↦
-            elim (either_true (around.told path) (around.faulty path) rest) [
-              | inl told ↦ by_table (sym (known.are_told path) ∙ told)
-              | inr faulty ↦
-                  let w = (known.are_faulty path names).0 faulty in
-                  by_fault w.place w.entry w.is_place w.is_fault
-            ]
+        | inr told ↦ by_table (sym (known.are_told path) ∙ told)
       ]
 
-  says_so : SaysSomething ps (imported_tables p tables) path → says_something around path ≡ true
+  says_so : SaysSomething (imported_tables p tables) path → says_something around path ≡ true
   says_so (as_library library) = first_true (is_first_path path) _ library
   says_so (by_table told) =
-      second_true (is_first_path path) _ (first_true (around.told path) _ (known.are_told path ∙ told))
-  says_so (by_fault j x place fault) =
-      let faulty = (known.are_faulty path names).1 (record { place = j; entry = x; is_place = place; is_fault = fault }) in
-      second_true (is_first_path path) _ (second_true (around.told path) _ faulty)
+      second_true (is_first_path path) _ (known.are_told path ∙ told)
 
 pub around_says : (ps : List LoadedPackage) (tables : Tables) (p : LoadedPackage) (around : Surroundings)
     → KnownAround ps tables p around
     → Says ps tables p (says_something around)
 around_says ps tables p around known path names =
-    (is_said ps tables p around known path names, says_so ps tables p around known path names)
+    (is_said ps tables p around known path, says_so ps tables p around known path)
 
 -- The entries
 
@@ -125,7 +116,7 @@ module _ (ps : List LoadedPackage) (tables : Tables) (i : ℕ) (p : LoadedPackag
       subst (λ (r : LoadedPackage). Contains (numbered_trees r) out.tree) same out.is_tree in
       let speaks : says out.spec.path ≡ true =
       (are out.spec.path (spec_path p out.tree out.spec is_tree out.is_spec)).1
-      (subst (λ (r : LoadedPackage). SaysSomething ps (imported_tables r tables) out.spec.path) same out.says_something) in
+      (subst (λ (r : LoadedPackage). SaysSomething (imported_tables r tables) out.spec.path) same out.says_something) in
       let named : spec_dots says out.tree.file out.spec ≡ dot_entry file dot ∷ [] =
       ap (dot_entries (says out.spec.path) out.tree.file) out.is_its
       ∙ (ap (λ b. if b then dot_if (says out.spec.path) out.tree.file dot else [])

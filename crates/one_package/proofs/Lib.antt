@@ -1,3 +1,4 @@
+mod CountedMarks
 mod DeclaredImports
 pub mod FirstJudged
 mod FaultyMarks

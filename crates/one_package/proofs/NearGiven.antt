@@ -10,7 +10,7 @@ pub near_given : (declared : Tables) (ps : List LoadedPackage) (given : Given) �
 near_given declared ps given tells p = record {
   are_given = λ path names. ap is_some (tells.are_places path);
   are_unranked = λ path names. tells.are_unranked path;
-  are_faulty = λ path names. tells.are_faulty path;
+  are_counted = λ path j names place. tells.are_counted path j place;
   are_names = λ path names. tells.are_names path;
   are_declared = tells.are_declared;
   are_marked = tells.are_marked;

@@ -1,5 +1,5 @@
 -- Of the imports that are not yes those are picked that the package needs to be.
-use Rattle.std.proofs.Common.{◌≡◌, ℕ, inl, inr, Bool, true, ◌&&◌, List, Contains, Some, refl, sym, ap, ◌∙◌, subst}
+use Rattle.std.proofs.Common.{◌≡◌, ℕ, Bool, true, ◌&&◌, List, Contains, Some, refl, sym, ap, ◌∙◌, subst}
 use Rattle.std.specs.Prelude.{◌↔◌, slice_get}
 use Rattle.std.proofs.lemmas.Bool.{and_parts, and_from}
 use Rattle.std.proofs.lemmas.Option.{same_Some}
@@ -13,12 +13,10 @@ use Rattle.imports.proofs.GivenImports.{there_first}
 use Rattle.meaning_reports.specs.Loaded.{LoadedPackage, Tables, import_list, imported_paths}
 use Rattle.meaning_reports.proofs.ImportsOf.{list_item, in_lists}
 use Rattle.meaning_reports.specs.PackageReports.{Rules}
-use Rattle.meaning_reports.specs.UsedImports.{IsNeeded, in_first, has_whole_fault, is_used, IsUsed}
-use Rattle.meaning_reports.specs.WholeFaults.{IsWholeFault}
+use Rattle.meaning_reports.specs.UsedImports.{IsNeeded, in_first, is_used, IsUsed}
 use Rattle.one_package.specs.Judgments.{KnownAround, Surroundings, AreNotYes, ArePicked}
 use Rattle.one_package.specs.Needed.{is_needed}
 use Rattle.one_package.proofs.ImportedNames.{import_path}
-use Rattle.one_package.proofs.LeftOutDots.{either_true, first_true, second_true}
 
 -- what is imported has the place of its path
 placed : (ps : List LoadedPackage) (i j : ℕ) (q : LoadedPackage) → Imports (import_list ps) i j → slice_get ps j ≡ Some q
@@ -40,12 +38,9 @@ module _ (ps : List LoadedPackage) (tables : Tables) (i : ℕ) (p : LoadedPackag
     needed_so : (edition : Edition) → p.edition ≡ edition → is_needed edition around files path ≡ true
         → IsNeeded ps tables i j path
     needed_so First is e = in_first is_p is
-    needed_so Second is e = elim (either_true (files_hand path files) (around.faulty path) e) [
-      | inl hands ↦ is_used ((are_used path).0 hands)
-      | inr faulty ↦
-          let w = (known.are_faulty path names).0 faulty in
-          has_whole_fault (subst (λ k. IsWholeFault ps k w.entry) (same_Some w.place j (sym w.is_place ∙ place)) w.is_fault)
-    ]
+    needed_so Second is e =
+        let both = and_parts (files_hand path files) (around.counted path) e in
+        is_used (sym (known.are_counted path j names place) ∙ both.1) ((are_used path).0 both.0)
 
     so_needed : (edition : Edition) → p.edition ≡ edition → IsNeeded ps tables i j path
         → is_needed edition around files path ≡ true
@@ -53,11 +48,9 @@ module _ (ps : List LoadedPackage) (tables : Tables) (i : ℕ) (p : LoadedPackag
     so_needed Second is (in_first is_its first) =
         let bad : First ≡ Second = sym first ∙ ap (λ (q : LoadedPackage). q.edition) (same_Some _ p (sym is_its ∙ is_p)) ∙ is in
         cc
-    so_needed Second is (has_whole_fault {x} fault) =
-        second_true (files_hand path files) _
-        ((known.are_faulty path names).1 (record { place = j; entry = x; is_place = place; is_fault = fault }))
-    so_needed Second is (is_used used) =
-        first_true (files_hand path files) _ ((are_used path).1 used)
+    so_needed Second is (is_used counted used) =
+        and_from (files_hand path files) (around.counted path) ((are_used path).1 used)
+        (known.are_counted path j names place ∙ counted)
 
   module _ (rules : Rules) (edition : Edition) (is : p.edition ≡ edition) (not_yes : List ℕ → Bool)
       (are : AreNotYes rules ps tables i not_yes) where

@@ -14,9 +14,7 @@ use Rattle.declared_tables.specs.DeclaredTables.{table_if_any}
 use Rattle.declared_tables.specs.MarkedGivers.{MarksGivers}
 use Rattle.whole_packages.specs.WholeEntries.{is_marked, is_set, is_set_at, IsUnranked}
 use Rattle.meaning_reports.proofs.ImportsOf.{names_first, no_rank_above}
-use Rattle.meaning_reports.specs.Loaded.{LoadedPackage, Tables, import_list, imported_paths, name_of, package_at, package_names}
-use Rattle.meaning_reports.specs.WholeFaults.{IsWholeFault}
-use Rattle.one_package.specs.Judgments.{IsFaulty}
+use Rattle.meaning_reports.specs.Loaded.{LoadedPackage, Tables, counts, import_list, imported_paths, name_of, package_at, package_names}
 use Rattle.one_package.specs.Neighbours.{TellsNearby}
 use Rattle.one_package.specs.ToldNeighbours.{item_of, name_told, AreImportsOf, IsRightAbout}
 use Rattle.one_package.specs.declared.told_neighbours.ImportedPackage.{ImportedPackage}
@@ -116,27 +114,16 @@ module _ (ps : List LoadedPackage) (i : ℕ) (p : LoadedPackage) (is_p : slice_g
       let im = names_first ps i p is_p path h.place names (first_there lists path h.place h.is_place) in
       absurd (no_rank_above ps i p is_p h.place im h.no_rank rank)
 
-  faulty_told : (path : List ℕ) (o : Option ℕ) → place_in path ≡ o
-      → is_set_at o (map (λ (one : ImportedPackage). one.is_faulty) told) ≡ true
-      → IsFaulty ps path
-  faulty_told path None e f = absurd (false≢true f)
-  faulty_told path (Some k) e f =
-      let t = told_there path k e in
-      let mark = ap is_set (sym (slice_get-map (λ (one : ImportedPackage). one.is_faulty) told k
-      ∙ ap (option_map (λ (one : ImportedPackage). one.is_faulty)) t.is_there)) in
-      let w = t.right.is_fault.0 (mark ∙ f) in
-      record { place = t.right.place; entry = w.0; is_place = place_there path k t; is_fault = w.1 }
-
-  told_faulty : (path : List ℕ) → Contains (imported_paths p) path → IsFaulty ps path
-      → is_marked place_in (map (λ (one : ImportedPackage). one.is_faulty) told) path ≡ true
-  told_faulty path names h =
-      let k = some_from (place_in path) (are.are_all path names (ap is_some h.is_place)) in
+  counted_told : (path : List ℕ) (j : ℕ) → Contains (imported_paths p) path → place_from path lists 0 ≡ Some j
+      → is_marked place_in (map (λ (one : ImportedPackage). one.is_counted) told) path ≡ counts (slice_get ps j)
+  counted_told path j names place =
+      let k = some_from (place_in path) (are.are_all path names (ap is_some place)) in
       let t = told_there path k.0 k.1 in
-      let same = same_Some h.place t.right.place (sym h.is_place ∙ place_there path k.0 t) in
-      ap (λ o. is_set_at o (map (λ (one : ImportedPackage). one.is_faulty) told)) k.1
-      ∙ (ap is_set (slice_get-map (λ (one : ImportedPackage). one.is_faulty) told k.0
-      ∙ ap (option_map (λ (one : ImportedPackage). one.is_faulty)) t.is_there)
-      ∙ t.right.is_fault.1 (h.entry, subst (λ n. IsWholeFault ps n h.entry) same h.is_fault))
+      let same = same_Some t.right.place j (sym (place_there path k.0 t) ∙ place) in
+      ap (λ o. is_set_at o (map (λ (one : ImportedPackage). one.is_counted) told)) k.1
+      ∙ (ap is_set (slice_get-map (λ (one : ImportedPackage). one.is_counted) told k.0
+      ∙ ap (option_map (λ (one : ImportedPackage). one.is_counted)) t.is_there)
+      ∙ (t.right.is_counted ∙ ap (λ n. counts (slice_get ps n)) same))
 
   names_so : (path : List ℕ) → Contains (imported_paths p) path → name_told told path ≡ package_names ps path
   names_so path names =
@@ -155,14 +142,14 @@ module _ (ps : List LoadedPackage) (i : ℕ) (p : LoadedPackage) (is_p : slice_g
       → TellsNearby tables ps p (record {
         places = place_in;
         unranked = [];
-        faulty = map (λ (one : ImportedPackage). one.is_faulty) told;
+        counted = map (λ (one : ImportedPackage). one.is_counted) told;
         names = name_told told;
         declared = declared;
       })
   told_near tables declared are_declared are_marked = record {
     are_given = given_so;
     are_unranked = λ path names. (unranked_none path, none_unranked path names);
-    are_faulty = λ path names. (faulty_told path (place_in path) refl, told_faulty path names);
+    are_counted = counted_told;
     are_names = names_so;
     are_declared = are_declared;
     are_marked = are_marked;

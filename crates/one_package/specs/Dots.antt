@@ -4,4 +4,4 @@ use Rattle.meaning.specs.OuterBlocks.{is_first_path}
 use Rattle.one_package.specs.Judgments.{Surroundings}
 
 abbrev pub says_something : Surroundings → List ℕ → Bool
-says_something around path = is_first_path path || (around.told path || around.faulty path)
+says_something around path = is_first_path path || around.told path

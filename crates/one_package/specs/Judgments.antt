@@ -18,7 +18,7 @@ use Rattle.names.specs.Answers.{names_by_path}
 use Rattle.report.specs.Entries.{Entry, Precedes, entry_of, texts_of}
 use Rattle.report.specs.declared.diagnostics.Diagnostic.{Diagnostic}
 use Rattle.report.specs.declared.diagnostics.PackageReport.{PackageReport}
-use Rattle.meaning_reports.specs.Loaded.{LoadedPackage, PackageTable, Tables, import_list, imported_paths, package_names, imported_tables, imported_signatures, imported_flags}
+use Rattle.meaning_reports.specs.Loaded.{LoadedPackage, PackageTable, Tables, counts, import_list, imported_paths, package_names, imported_tables, imported_signatures, imported_flags}
 use Rattle.meaning_reports.specs.PackageTables.{IsTableBy, IsEmpty}
 use Rattle.meaning_reports.specs.UsedImports.{IsNeeded}
 use Rattle.meaning_reports.specs.WholeFaults.{IsWholeFault}
@@ -65,11 +65,12 @@ pub record IsFaulty (ps : List LoadedPackage) (path : List ℕ) : Type 0 where
   pub is_place : place_from path (import_list ps) 0 ≡ Some place
   pub is_fault : IsWholeFault ps place entry
 
--- of the paths that the package imports those are picked that are of such packages
-abbrev pub PicksFaulty : List LoadedPackage → LoadedPackage → (List ℕ → Bool) → Type 0
-PicksFaulty ps p picked = (path : List ℕ)
+-- of the given packages that the package imports those are picked, by their paths, that count as given
+abbrev pub PicksCounted : List LoadedPackage → LoadedPackage → (List ℕ → Bool) → Type 0
+PicksCounted ps p picked = (path : List ℕ) (j : ℕ)
     → Contains (imported_paths p) path
-    → (picked path ≡ true) ↔ IsFaulty ps path
+    → place_from path (import_list ps) 0 ≡ Some j
+    → picked path ≡ counts (slice_get ps j)
 
 -- what is kept of the packages around one
 pub record Surroundings : Type 0 where
@@ -79,7 +80,7 @@ pub record Surroundings : Type 0 where
   pub givers : List ℕ → Bool
   pub told : List ℕ → Bool
   pub unranked : List ℕ → Bool
-  pub faulty : List ℕ → Bool
+  pub counted : List ℕ → Bool
 
 -- it is what is known of those around the package
 pub record KnownAround (ps : List LoadedPackage) (tables : Tables) (p : LoadedPackage) (around : Surroundings)
@@ -90,7 +91,7 @@ pub record KnownAround (ps : List LoadedPackage) (tables : Tables) (p : LoadedPa
   pub are_givers : (path : List ℕ) → around.givers path ≡ false → GiveNone (imported_signatures p tables path)
   pub are_told : (path : List ℕ) → around.told path ≡ (imported_tables p tables path).is_told
   pub are_unranked : PicksUnranked ps p around.unranked
-  pub are_faulty : PicksFaulty ps p around.faulty
+  pub are_counted : PicksCounted ps p around.counted
 
 abbrev pub around_view : Around → Surroundings
 around_view around = record {
@@ -100,7 +101,7 @@ around_view around = record {
   givers = may_give around.signs.now;
   told = is_told around.signs.now;
   unranked = is_marked (at_path around.unranked.places.now) around.unranked.marks.now;
-  faulty = is_marked (at_path around.faulty.places.now) around.faulty.marks.now;
+  counted = is_marked (at_path around.counted.places.now) around.counted.marks.now;
 }
 
 abbrev pub TellsAround : List LoadedPackage → Tables → LoadedPackage → Around → Type 0

@@ -13,13 +13,13 @@ use Rattle.whole_packages.specs.WholeEntries.{is_marked, PicksUnranked}
 use Rattle.meaning_reports.specs.Loaded.{LoadedPackage, Tables, import_list, imported_paths, package_names}
 use Rattle.one_package.specs.declared.given.Given.{Given}
 use Rattle.one_package.specs.declared.nearby.Neighbours.{Neighbours}
-use Rattle.one_package.specs.Judgments.{PicksFaulty}
+use Rattle.one_package.specs.Judgments.{PicksCounted}
 
 -- the places of given packages, and what is known of these by their places
 pub record Nearby : Type 0 where
   pub places : List ℕ → Option ℕ
   pub unranked : List Bool
-  pub faulty : List Bool
+  pub counted : List Bool
   pub names : List ℕ → Option (List ℕ)
   pub declared : List ℕ → Option KeptTable
 
@@ -27,7 +27,7 @@ abbrev pub nearby_view : Neighbours → Nearby
 nearby_view near = record {
   places = at_path near.places.now;
   unranked = near.unranked.now;
-  faulty = near.faulty.now;
+  counted = near.counted.now;
   names = names_by_path near.names.now;
   declared = value_of near.declared.now.packages;
 }
@@ -37,7 +37,7 @@ abbrev pub nearby_in : Given → Nearby
 nearby_in given = record {
   places = at_path given.places;
   unranked = given.unranked.items;
-  faulty = given.faulty.items;
+  counted = given.counted.items;
   names = names_by_path given.names;
   declared = value_of given.declared.packages;
 }
@@ -48,7 +48,7 @@ pub record TellsNearby (declared : Tables) (ps : List LoadedPackage) (p : Loaded
       → Contains (imported_paths p) path
       → is_some (near.places path) ≡ is_some (place_from path (import_list ps) 0)
   pub are_unranked : PicksUnranked ps p (is_marked near.places near.unranked)
-  pub are_faulty : PicksFaulty ps p (is_marked near.places near.faulty)
+  pub are_counted : PicksCounted ps p (is_marked near.places near.counted)
   pub are_names : (path : List ℕ) → Contains (imported_paths p) path → near.names path ≡ package_names ps path
   pub are_declared : (path : List ℕ) → table_if_any (near.declared path) ≡ declared path
   pub are_marked : (path : List ℕ) (t : KeptTable) → near.declared path ≡ Some t → MarksGivers t

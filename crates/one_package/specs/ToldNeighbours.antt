@@ -1,15 +1,13 @@
 -- What a package that is judged by itself is told of those that it imports, beside what is known of their functions,
 -- and when that is right.
-use Rattle.std.specs.Prelude.{ℕ, ◌≡◌, ◌↔◌, true, if◌then◌else◌, List, [], ◌∷◌, map, Contains, Option, None, Some, option_map, is_some}
+use Rattle.std.specs.Prelude.{ℕ, ◌≡◌, true, if◌then◌else◌, List, [], ◌∷◌, map, Contains, Option, None, Some, option_map, is_some, slice_get}
 use Rattle.std.specs.Str.{bytes_eq}
 use Rattle.imports.specs.Ranks.{Package}
 use Rattle.imports.specs.Settling.{place_from}
 use Rattle.imports.specs.Views.{at_path}
 use Rattle.meaning.specs.OuterBlocks.{or_else}
 use Rattle.names.specs.Answers.{names_by_path}
-use Rattle.report.specs.Entries.{Entry}
-use Rattle.meaning_reports.specs.Loaded.{LoadedPackage, import_list, imported_paths, package_names}
-use Rattle.meaning_reports.specs.WholeFaults.{IsWholeFault}
+use Rattle.meaning_reports.specs.Loaded.{LoadedPackage, counts, import_list, imported_paths, package_names}
 use Rattle.one_package.specs.declared.told_neighbours.ImportedPackage.{ImportedPackage}
 use Rattle.one_package.specs.declared.told_neighbours.ToldNeighbours.{ToldNeighbours}
 
@@ -28,7 +26,7 @@ name_told (one ∷ rest) path = or_else (name_if one path) (name_told rest path)
 -- what is kept of them
 pub record KeepsImported (imported : List ImportedPackage) (told : ToldNeighbours) : Type 0 where
   pub are_places : (path : List ℕ) → at_path told.places path ≡ place_from path (map item_of imported) 0
-  pub are_faulty : told.faulty.items ≡ map (λ one. one.is_faulty) imported
+  pub are_counted : told.counted.items ≡ map (λ one. one.is_counted) imported
   pub are_names : (path : List ℕ) → names_by_path told.names path ≡ name_told imported path
 
 -- it is right about the given package of its path
@@ -36,7 +34,7 @@ pub record IsRightAbout (ps : List LoadedPackage) (one : ImportedPackage) : Type
   pub place : ℕ
   pub is_place : place_from one.path.now (import_list ps) 0 ≡ Some place
   pub is_name : option_map (λ name. name.now) one.name ≡ package_names ps one.path.now
-  pub is_fault : (one.is_faulty ≡ true) ↔ ((x : Entry) × IsWholeFault ps place x)
+  pub is_counted : one.is_counted ≡ counts (slice_get ps place)
 
 -- each of them is a given package, and each given one that the package imports is one of them
 pub record AreImportsOf (ps : List LoadedPackage) (p : LoadedPackage) (imported : List ImportedPackage) : Type 0 where

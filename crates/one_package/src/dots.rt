@@ -31,10 +31,10 @@ impl Picks for Named<'_, '_> {
     ghost picked = { λ named. says_something (around_view named.around) };
 
     fn picks(&self, path: &str) -> Result<bool, AllocError> {
-        if is_library(path) || self.around.signs.is_told(path) {
+        if is_library(path) {
             return Ok(true);
         }
-        self.around.faulty.picks(path)
+        Ok(self.around.signs.is_told(path))
     }
 }
 

@@ -10,6 +10,7 @@ ghost use Rattle.whole_packages.specs.LoadedViews.{HaveDistinctPaths, TellPackag
 ghost use Rattle.meaning_reports.specs.Loaded.{LoadedPackage as MeantPackage};
 ghost use Rattle.declared_json.specs.DeclaredPackages.{packages_of};
 
+use crate::counted::counted_packages;
 use crate::faulty::faulty_packages;
 use crate::package_names::names_of_packages;
 use declared_json::DeclaredPackages;
@@ -36,6 +37,8 @@ pub struct Given<'a> {
     pub unranked: Vec<bool>,
     /// Which of them have a fault as a whole.
     pub faulty: Vec<bool>,
+    /// Which of them count as given for those that import them.
+    pub counted: Vec<bool>,
     pub names: PackageNames<'a>,
     /// What is declared of packages that are not given.
     pub declared: DeclaredTables<'a>,
@@ -70,6 +73,7 @@ pub fn given_packages<'a>(
         marks: &unranked,
     };
     let faulty = faulty_packages(alloc, packages, marked)?;
+    let counted = counted_packages(alloc, packages)?;
     let declared = DeclaredTables::of(alloc, outside)?;
     Ok(Given {
         packages,
@@ -79,6 +83,7 @@ pub fn given_packages<'a>(
         places,
         unranked,
         faulty,
+        counted,
         names,
         declared,
     })

@@ -44,8 +44,8 @@ pub struct Around<'k, 'a> {
     pub signs: &'k KnownSigns<'a>,
     /// The given packages that have no rank.
     pub unranked: Marked<'k, 'a>,
-    /// Those that have a fault as a whole.
-    pub faulty: Marked<'k, 'a>,
+    /// Those that count as given.
+    pub counted: Marked<'k, 'a>,
     /// Its imports that are not yes.
     pub not_yes: &'k NotYes<'a>,
 }

@@ -41,9 +41,9 @@ pub fn around_beside<'k, 't, 'a>(
             places: near.places,
             marks: near.unranked,
         },
-        faulty: Marked {
+        counted: Marked {
             places: near.places,
-            marks: near.faulty,
+            marks: near.counted,
         },
         not_yes: &imports.not_yes,
     }

@@ -3,6 +3,7 @@
 #![tactic(auto)]
 
 mod by_paths;
+mod counted;
 mod dots;
 mod faulty;
 mod file_rules;
@@ -20,6 +21,7 @@ mod told_package;
 mod verdicts;
 
 pub use by_paths::{ByPaths, JudgedBodies, judge_bodies};
+pub use counted::counts_as_given;
 pub use file_rules::{FileRules, FoundFiles, Judges};
 pub use given::{Given, given_packages};
 pub use grounds::tell_unless_faulty;

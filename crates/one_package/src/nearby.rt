@@ -16,8 +16,8 @@ pub struct Neighbours<'k, 'a> {
     pub places: &'k IndexMap<&'a str, usize>,
     /// Which of them have no rank, by their places.
     pub unranked: &'k [bool],
-    /// Which of them have a fault as a whole.
-    pub faulty: &'k [bool],
+    /// Which of them count as given, by their places.
+    pub counted: &'k [bool],
     pub names: &'k PackageNames<'a>,
     /// What is declared of packages that are not given.
     pub declared: &'k DeclaredTables<'a>,
@@ -31,7 +31,7 @@ impl<'a> Given<'a> {
         Neighbours {
             places: &self.places,
             unranked: &self.unranked,
-            faulty: &self.faulty,
+            counted: &self.counted,
             names: &self.names,
             declared: &self.declared,
         }

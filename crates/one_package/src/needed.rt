@@ -19,8 +19,8 @@ pub struct Needed<'n, 'k, 'a> {
     pub files: &'n [ToldFile<'a>],
 }
 
-/// Whether a package of that edition needs the import of that path to be yes: in the second edition only where one of
-/// its files hands something to it, or where it has a fault as a whole.
+/// Whether a package of that edition needs the import of that path to be yes: in the second edition only where that
+/// counts as given, and one of its files hands something to it.
 fn is_needed(needed: &Needed<'_, '_, '_>, path: &str) -> Result<bool, AllocError>
     ensures { IfOk result (λ is. is
         ≡ is_needed needed.now.edition (around_view needed.now.around) needed.now.files.now path.now) }
@@ -29,9 +29,9 @@ fn is_needed(needed: &Needed<'_, '_, '_>, path: &str) -> Result<bool, AllocError
         Edition::First => Ok(true),
         Edition::Second => {
             if files_hand(needed.files, path) {
-                return Ok(true);
+                return needed.around.counted.picks(path);
             }
-            needed.around.faulty.picks(path)
+            Ok(false)
         }
     }
 }

@@ -23,17 +23,17 @@ use std::alloc::{AllocError, Global};
 #[derive(Clone, Copy)]
 pub struct ImportedPackage<'a> {
     pub path: &'a str,
-    /// The name in its package clause, if it has a file with a tree.
+    /// The name in its package clause, if it has a file with a tree and counts as given.
     pub name: Option<&'a str>,
-    /// Whether it has a fault as a whole.
-    pub is_faulty: bool,
+    /// Whether it counts as given.
+    pub is_counted: bool,
 }
 
 /// The given packages that one imports which is judged by itself.
 #[derive(Drop)]
 pub struct ToldNeighbours<'a> {
     places: IndexMap<&'a str, usize>,
-    faulty: Vec<bool>,
+    counted: Vec<bool>,
     names: PackageNames<'a>,
 }
 
@@ -60,11 +60,11 @@ fn lists_of<'a>(
 }
 
 fn marks_of(alloc: Global, imported: &[ImportedPackage<'_>]) -> Result<Vec<bool>, AllocError>
-    ensures { IfOk result (λ marks. marks.items ≡ map (λ one. one.is_faulty) imported.now) }
+    ensures { IfOk result (λ marks. marks.items ≡ map (λ one. one.is_counted) imported.now) }
 {
     let mut marks = Vec::new(alloc);
     for one in imported {
-        marks.push(one.is_faulty)?;
+        marks.push(one.is_counted)?;
     }
     Ok(marks)
 }
@@ -104,11 +104,11 @@ impl<'a> ToldNeighbours<'a> {
     {
         let lists = lists_of(alloc, imported)?;
         let places = first_places(alloc, &lists)?;
-        let faulty = marks_of(alloc, imported)?;
+        let counted = marks_of(alloc, imported)?;
         let names = names_of(alloc, imported)?;
         Ok(ToldNeighbours {
             places,
-            faulty,
+            counted,
             names,
         })
     }
@@ -125,7 +125,7 @@ impl<'a> ToldNeighbours<'a> {
         Neighbours {
             places: &self.places,
             unranked: &[],
-            faulty: &self.faulty,
+            counted: &self.counted,
             names: &self.names,
             declared,
         }

@@ -38,7 +38,10 @@ given_shared κ p =
                 search (sendable, vec.the_sync, alloc.the_sync),
                 (
                   search (sendable, vec.the_sync, alloc.the_sync),
-                  (search (sendable, names.the_sync), (search (sendable, tables.the_sync), tt)),
+                  (
+                    search (sendable, vec.the_sync, alloc.the_sync),
+                    (search (sendable, names.the_sync), (search (sendable, tables.the_sync), tt)),
+                  ),
                 ),
               ),
             ),

@@ -2,6 +2,7 @@
 use Rattle.std.proofs.Common.{◌≡◌, ℕ, Option, Some, None, List, [], ◌∷◌, ◌++◌, map, decimal, codes, Bool, true, false, slice_get, refl, sym, ap, ◌∙◌}
 use Rattle.std.proofs.lemmas.Simd.{map-map}
 use Rattle.std.specs.Borrow.{Bor}
+use Rattle.std.specs.Prelude.{option_map}
 use Rattle.json.specs.Print.{escape_byte, escape}
 use Rattle.serde_json.specs.Data.{Data, string}
 use Rattle.serde_json.specs.Written.{comma_if, compact_text}
@@ -10,6 +11,7 @@ use Rattle.accepting.specs.declared.findings.Finding.{Finding}
 use Rattle.accepting.specs.declared.findings.FoundPackage.{FoundPackage}
 use Rattle.accepting.specs.declared.findings.Verdict.{Verdict}
 use Rattle.accepting.specs.declared.findings.Verdict.TheVariants.{Yes, Accepted, No}
+use Rattle.lexer.specs.declared.source.Place.{Place}
 use Rattle.lexer.specs.declared.source.Source.{Source}
 use Rattle.lexer.specs.Place.{line_of, column_of}
 use Rattle.report.specs.Codes.{code_number, code_words}
@@ -17,14 +19,19 @@ use Rattle.report.specs.Entries.{Entry, texts_of}
 use Rattle.report.specs.Notes.{note_words, source_of}
 use Rattle.report.specs.ReportText.{name_of, bytes_of}
 use Rattle.report.specs.declared.codes.Wording.{Wording}
+use Rattle.report.specs.declared.codes.Wording.TheVariants.{First, Second}
 use Rattle.report.specs.declared.notes.Note.{Note}
-use Rattle.report_formats.specs.Pieces.{listed, members_listed, opened}
-use Rattle.report_formats.specs.Objects.{list_of, object_of, whole}
-use Rattle.report_formats.specs.JsonText.{place_members_at, place_members, said_members, reason_members, why_members, finding_value, verdict_members, package_value, note_value, json_of, json_text}
+use Rattle.report.specs.declared.notes.NoteText.{NoteText}
+use Rattle.report_formats.specs.Pieces.{IsByteRegion, json_end, listed, members_listed, opened}
+use Rattle.report_formats.specs.Objects.{items_of, list_of, object_of}
+use Rattle.report_formats.specs.JsonText.{byte_end, byte_place, code_members, end_members, kind_members, place_members_at, place_members, said_members, reason_members, version_members, why_members, finding_value, verdict_members, package_value, note_value, json_of, json_text}
+use Rattle.report_formats.specs.NameEnds.{told_end}
+use Rattle.report_formats.specs.NoteKinds.{kind_text, taken_in, taken_members}
 use Rattle.report_formats.specs.Told.{notes_told, reason_text}
+use Rattle.report_formats.specs.declared.ends.Region.{Region}
 use Rattle.report_formats.specs.declared.style.Style.{Style}
 use Rattle.report_formats.proofs.NoteParts.{escaped_then}
-use Rattle.report_formats.proofs.Values.{joined, value_then_is, value_is, items_then_listed, listed_is, opened_then, opened_is, object_parts, more_parts, last_parts}
+use Rattle.report_formats.proofs.Values.{items_then, joined, value_then_is, value_is, items_then_listed, listed_is, listed_then, listed_then_is, listed_then_parts, opened_then, opened_is, object_parts, more_parts, last_parts}
 
 -- what stands for a finding in memory, and for a package
 abbrev pub finding_data : Style → List Source → Finding → Data
@@ -51,15 +58,30 @@ said_pieces number name text =
     codes ",\"code\":\"" ∷ escape number ∷ codes "\",\"name\":\"" ∷ escape name ∷ codes "\",\"text\":\"" ∷ escape text
     ∷ codes "\"" ∷ []
 
-said_here : (later : Bool) (wording : Wording) (source : Option Source) (said : Entry) → opened later (said_members wording source said) ≡ opened later (place_members source said.offset) ++ joined (said_pieces (code_number said.code) said.name (code_words wording said.code)) []
+said_here : (later : Bool) (wording : Wording) (source : Option Source) (said : Entry) → opened later (said_members wording source said) ≡ opened later (place_members source said.offset) ++ (members_listed true (end_members (byte_end wording source said)) ++ joined (said_pieces (code_number said.code) said.name (code_words wording said.code)) [])
 unfolding escape_byte
 said_here later wording source said =
+    let place = place_members source said.offset in
+    let end = end_members (byte_end wording source said) in
+    let code = code_members wording said in
     opened_is later (said_members wording source said)
-    ∙ sym (opened_then later (place_members source said.offset) (joined (said_pieces (code_number said.code) said.name (code_words wording said.code)) []))
+    ∙ (sym (opened_then later place (listed_then true (end ++ code) []))
+    ∙ ap (λ t. opened later place ++ t) (listed_then_parts end code [] ∙ sym (listed_then_is true end (listed_then true code []))))
 
-pub said_is : (later : Bool) (wording : Wording) (source : Option Source) (said : Entry) (file : List ℕ) (line column : ℕ) (number text : List ℕ) → file ≡ name_of source → line ≡ line_of (bytes_of source) said.offset → column ≡ column_of (bytes_of source) said.offset → number ≡ code_number said.code → text ≡ code_words wording said.code → opened later (said_members wording source said) ≡ opened later (place_members_at file line column) ++ joined (said_pieces number said.name text) []
-said_is later wording source said file line column number text f l o n t =
-    rw (f, l, o, n, t) (said_here later wording source said)
+pub said_is : (later : Bool) (wording : Wording) (source : Option Source) (said : Entry) (file : List ℕ) (region : Region) (number text : List ℕ) → file ≡ name_of source → IsByteRegion wording source said region → number ≡ code_number said.code → text ≡ code_words wording said.code → opened later (said_members wording source said) ≡ opened later (place_members_at file region.start.line region.start.column) ++ (members_listed true (end_members region.end) ++ joined (said_pieces number said.name text) [])
+said_is later wording source said file region number text f is n t =
+    rw (f, is.start.line, is.start.column, is.end, n, t) (said_here later wording source said)
+
+-- where a name ends
+end_here : (place : Place) → members_listed true (end_members (Some place)) ≡ joined (codes ",\"end_line\":" ∷ decimal place.line ∷ codes ",\"end_column\":" ∷ decimal place.column ∷ []) []
+unfolding escape_byte
+end_here place = listed_is true (end_members (Some place))
+
+pub end_is : (end : Option Place) (place : Place) → end ≡ Some place → members_listed true (end_members end) ≡ joined (codes ",\"end_line\":" ∷ decimal place.line ∷ codes ",\"end_column\":" ∷ decimal place.column ∷ []) []
+end_is end place e = rw e (end_here place)
+
+pub no_end : (end : Option Place) → end ≡ None → members_listed true (end_members end) ≡ []
+no_end end e = rw e refl
 
 -- a finding behind its comma: what is said, the reason for which it is accepted, and its notes
 pub finding_is : (later : Bool) (style : Style) (sources : List Source) (f : FindingEntry) → comma_if later ++ compact_text (finding_value style sources f) ≡ opened later (said_members style.wording (slice_get sources f.said.file) f.said) ++ (members_listed true (reason_members f.accepted) ++ (members_listed true (why_members style.with_reasons style.wording (notes_told style f)) ++ codes "}"))
@@ -99,16 +121,34 @@ abbrev pub note_pieces : (a b c d e : List ℕ) → List (List ℕ)
 note_pieces a b c d e =
     codes ",\"text\":\"" ∷ escape a ∷ escape b ∷ escape c ∷ escape d ∷ escape e ∷ codes "\"}" ∷ []
 
-note_here : (later : Bool) (wording : Wording) (n : Note) (a b c d e : List ℕ) → a ++ (b ++ (c ++ (d ++ e))) ≡ note_words wording n.text → comma_if later ++ compact_text (note_value wording n) ≡ opened later (place_members (source_of n) n.offset) ++ joined (note_pieces a b c d e) []
+note_here : (later : Bool) (wording : Wording) (n : Note) (a b c d e : List ℕ) → a ++ (b ++ (c ++ (d ++ e))) ≡ note_words wording n.text → comma_if later ++ compact_text (note_value wording n) ≡ opened later (place_members (source_of n) n.offset) ++ (members_listed true (kind_members wording n.text) ++ joined (note_pieces a b c d e) [])
 unfolding escape_byte
 note_here later wording n a b c d e are =
     let before = place_members (source_of n) n.offset in
-    object_parts later before ((codes "text", string (note_words wording n.text)) ∷ [])
-    ∙ ap (λ t. opened later before ++ (codes ",\"text\":\"" ++ t)) (escaped_then a b c d e (note_words wording n.text) (codes "\"}") are)
+    let kind = kind_members wording n.text in
+    let last = (codes "text", string (note_words wording n.text)) ∷ [] in
+    object_parts later before (kind ++ last)
+    ∙ ap (λ t. opened later before ++ t)
+    (more_parts kind last []
+    ∙ ap (λ t. members_listed true kind ++ (codes ",\"text\":\"" ++ t)) (escaped_then a b c d e (note_words wording n.text) (codes "\"}") are))
 
-pub note_is : (later : Bool) (wording : Wording) (n : Note) (file : List ℕ) (line column : ℕ) (a b c d e : List ℕ) → file ≡ name_of (source_of n) → line ≡ line_of (bytes_of (source_of n)) n.offset → column ≡ column_of (bytes_of (source_of n)) n.offset → a ++ (b ++ (c ++ (d ++ e))) ≡ note_words wording n.text → comma_if later ++ compact_text (note_value wording n) ≡ opened later (place_members_at file line column) ++ joined (note_pieces a b c d e) []
+pub note_is : (later : Bool) (wording : Wording) (n : Note) (file : List ℕ) (line column : ℕ) (a b c d e : List ℕ) → file ≡ name_of (source_of n) → line ≡ line_of (bytes_of (source_of n)) n.offset → column ≡ column_of (bytes_of (source_of n)) n.offset → a ++ (b ++ (c ++ (d ++ e))) ≡ note_words wording n.text → comma_if later ++ compact_text (note_value wording n) ≡ opened later (place_members_at file line column) ++ (members_listed true (kind_members wording n.text) ++ joined (note_pieces a b c d e) [])
 note_is later wording n file line column a b c d e f l o are =
     rw (f, l, o) (note_here later wording n a b c d e are)
+
+-- of which kind a note is
+kind_here : (text : NoteText) → members_listed true (kind_members Second text) ≡ joined (codes ",\"kind\":\"" ∷ escape (kind_text text) ∷ codes "\"" ∷ members_listed true (taken_members (taken_in text)) ∷ []) []
+unfolding escape_byte
+kind_here text =
+    let taken = taken_members (taken_in text) in
+    listed_is true (kind_members Second text)
+    ∙ ap (λ t. codes ",\"kind\":\"" ++ (escape (kind_text text) ++ (codes "\"" ++ t))) (sym (listed_then_is true taken []))
+
+pub kind_is : (wording : Wording) (text : NoteText) (kind taken : List ℕ) → wording ≡ Second → kind ≡ kind_text text → taken ≡ members_listed true (taken_members (taken_in text)) → members_listed true (kind_members wording text) ≡ joined (codes ",\"kind\":\"" ∷ escape kind ∷ codes "\"" ∷ taken ∷ []) []
+kind_is wording text kind taken w k t = rw (w, k, t) (kind_here text)
+
+pub no_kind : (wording : Wording) (text : NoteText) → wording ≡ First → members_listed true (kind_members wording text) ≡ []
+no_kind wording text w = rw w refl
 
 -- a name behind its comma
 abbrev pub name_pieces : (comma name : List ℕ) → List (List ℕ)
@@ -182,18 +222,60 @@ package_seen later style p =
 pub package_is : (later : Bool) (style : Style) (p : FoundPackage) (comma : List ℕ) (verdict : Verdict) (judged : List Finding) (keeping : List (Bor (List ℕ))) (findings : List Finding) → comma ≡ comma_if later → verdict ≡ verdict_of (map finding_view judged) → judged ≡ p.findings.items → keeping ≡ p.keeping.items → findings ≡ p.findings.items → comma_if later ++ compact_text (package_value style (found_view p)) ≡ joined (path_pieces comma p.path.now) [] ++ (members_listed true (verdict_members verdict (texts_of keeping)) ++ (codes ",\"diagnostics\":[" ++ (listed false (map (finding_data style p.sources.now) findings) ++ codes "]}")))
 package_is later style p comma verdict judged keeping findings c v j k f = rw (c, v, j, k, f) (package_seen later style p)
 
--- what stands behind the packages
-abbrev pub end_pieces : List (List ℕ)
-end_pieces = codes "],\"version\":" ∷ decimal 1 ∷ codes "}\n" ∷ []
-
-report_here : (packages : List Data) → json_of packages ≡ codes "{\"packages\":[" ++ (listed false packages ++ joined end_pieces [])
+-- whether a branch is taken
+taken_here : codes ",\"taken\":true" ≡ members_listed true (taken_members (Some true))
 unfolding escape_byte
-report_here packages =
-    value_then_is (object_of ((codes "packages", list_of packages) ∷ (codes "version", whole 1) ∷ [])) (codes "\n")
-    ∙ ap (λ t. codes "{\"packages\":[" ++ t) (items_then_listed false packages (codes ",\"version\":" ++ (decimal 1 ++ codes "}\n")))
+taken_here = refl
+
+passed_here : codes ",\"taken\":false" ≡ members_listed true (taken_members (Some false))
+unfolding escape_byte
+passed_here = refl
+
+pub is_taken : (taken : Option Bool) → taken ≡ Some true → codes ",\"taken\":true" ≡ members_listed true (taken_members taken)
+is_taken taken t = rw t taken_here
+
+pub is_passed : (taken : Option Bool) → taken ≡ Some false → codes ",\"taken\":false" ≡ members_listed true (taken_members taken)
+is_passed taken t = rw t passed_here
+
+pub no_branch : (taken : Option Bool) → taken ≡ None → [] ≡ members_listed true (taken_members taken)
+no_branch taken t = rw t refl
+
+-- what stands behind the packages
+first_end : json_end First ≡ joined (codes "],\"version\":" ∷ decimal 1 ∷ codes "}\n" ∷ []) []
+unfolding escape_byte
+first_end = ap (λ t. 93 ∷ t) (listed_then_is true (version_members First) (codes "}\n"))
+
+second_end : json_end Second ≡ joined (codes "],\"version\":" ∷ decimal 2 ∷ codes ",\"edition\":" ∷ decimal 2 ∷ codes "}\n" ∷ []) []
+unfolding escape_byte
+second_end = ap (λ t. 93 ∷ t) (listed_then_is true (version_members Second) (codes "}\n"))
+
+pub ends_first : (wording : Wording) → wording ≡ First → json_end wording ≡ joined (codes "],\"version\":" ∷ decimal 1 ∷ codes "}\n" ∷ []) []
+ends_first wording w = rw w first_end
+
+pub ends_second : (wording : Wording) → wording ≡ Second → json_end wording ≡ joined (codes "],\"version\":" ∷ decimal 2 ∷ codes ",\"edition\":" ∷ decimal 2 ∷ codes "}\n" ∷ []) []
+ends_second wording w = rw w second_end
+
+report_here : (wording : Wording) (packages : List Data) → json_of wording packages ≡ codes "{\"packages\":[" ++ (listed false packages ++ json_end wording)
+unfolding escape_byte
+report_here wording packages =
+    let version = version_members wording in
+    value_then_is (object_of ((codes "packages", list_of packages) ∷ version)) (codes "\n")
+    ∙ (ap (λ t. codes "{\"packages\":[" ++ items_then false (items_of packages) t) (last_parts version (codes "\n"))
+    ∙ ap (λ t. codes "{\"packages\":[" ++ t) (items_then_listed false packages (members_listed true version ++ codes "}\n")))
 
 -- the whole report
-pub report_is : (style : Style) (packages : List FoundPackage) → json_text style (map found_view packages) ≡ codes "{\"packages\":[" ++ (listed false (map (package_data style) packages) ++ joined end_pieces [])
+pub report_is : (style : Style) (packages : List FoundPackage) → json_text style (map found_view packages) ≡ codes "{\"packages\":[" ++ (listed false (map (package_data style) packages) ++ json_end style.wording)
 report_is style packages =
-    ap json_of (map-map (package_value style) found_view packages)
-    ∙ report_here (map (package_data style) packages)
+    ap (json_of style.wording) (map-map (package_value style) found_view packages)
+    ∙ report_here style.wording (map (package_data style) packages)
+
+-- where a name ends, as it was found
+place_same : (place : Place) (line column : ℕ) → place.line ≡ line → place.column ≡ column → place ≡ record { line = line; column = column }
+place_same place line column l c = λ i. record { line = l i; column = c i }
+
+pub end_found : (wording : Wording) (source : Option Source) (said : Entry) (offset : ℕ) (place : Place) (found : Option ℕ) → found ≡ told_end wording source said → found ≡ Some offset → place.line ≡ line_of (bytes_of source) offset → place.column ≡ column_of (bytes_of source) offset → Some place ≡ byte_end wording source said
+end_found wording source said offset place found told is line column =
+    ap Some (place_same place _ _ line column) ∙ ap (option_map (byte_place source)) (sym is ∙ told)
+
+pub none_found : (wording : Wording) (source : Option Source) (said : Entry) (found : Option ℕ) → found ≡ told_end wording source said → found ≡ None → None ≡ byte_end wording source said
+none_found wording source said found told is = ap (option_map (byte_place source)) (sym is ∙ told)

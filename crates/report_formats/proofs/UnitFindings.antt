@@ -46,7 +46,7 @@ digits_stand (b ∷ bs) h =
     let both = and_parts _ _ h in
     ap (λ t. t ++ escape bs) (plain_byte InString b (digit_stands b both.0)) ∙ ap (λ t. b ∷ t) (digits_stand bs both.1)
 
-number_stands : (n : ℕ) → n < 2 ^ 64 → escape (decimal n) ≡ decimal n
+pub number_stands : (n : ℕ) → n < 2 ^ 64 → escape (decimal n) ≡ decimal n
 number_stands n fits = digits_stand (decimal n) (digits_decimal own n fits)
 
 -- a finding behind its comma: up to the end of what is said of it, the reason for which it is accepted, and its notes

@@ -90,6 +90,13 @@ listed_then_is later (m ∷ ms) rest =
 pub listed_is : (later : Bool) (ms : List (List ℕ × Data)) → members_listed later ms ≡ listed_then later ms []
 listed_is later ms = sym (append-nil (members_listed later ms)) ∙ listed_then_is later ms []
 
+-- members in two parts
+pub listed_then_parts : (ms more : List (List ℕ × Data)) (rest : List ℕ)
+    → listed_then true (ms ++ more) rest ≡ listed_then true ms (listed_then true more rest)
+listed_then_parts [] more rest = refl
+listed_then_parts (m ∷ ms) more rest =
+    ap (λ t. comma_if true ++ (34 ∷ (escape m.0 ++ 34 ∷ 58 ∷ value_then m.1 t))) (listed_then_parts ms more rest)
+
 -- an object without its last brace, and the rest
 pub opened_then : (later : Bool) (ms : List (List ℕ × Data)) (rest : List ℕ)
     → opened later ms ++ rest ≡ comma_if later ++ 123 ∷ listed_then false ms rest

@@ -3,10 +3,14 @@ pub mod Formats
 pub mod Told
 pub mod ReportLines
 pub mod JsonText
+pub mod NoteKinds
 pub mod SarifText
 pub mod SarifCodes
+pub mod RuleHelp
 pub mod FileUris
 pub mod CodePoints
+pub mod NameEnds
+pub mod Fingerprints
 pub mod UnitText
 pub mod UnitJson
 pub mod Objects

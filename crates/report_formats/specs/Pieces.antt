@@ -7,17 +7,20 @@ use Rattle.serde_json.specs.Written.{comma_if, compact_text}
 use Rattle.lexer.specs.declared.source.Place.{Place}
 use Rattle.lexer.specs.declared.source.Source.{Source}
 use Rattle.lexer.specs.Place.{line_of, column_of}
+use Rattle.report.specs.Entries.{Entry}
 use Rattle.report.specs.ReportText.{bytes_of}
 use Rattle.report.specs.Writing.{TakesFront}
 use Rattle.report.specs.declared.cursors.Cursor.{Cursor}
 use Rattle.report.specs.declared.codes.DiagnosticCode.{DiagnosticCode}
 use Rattle.report_formats.specs.CodePoints.{code_point_column}
 use Rattle.report_formats.specs.FileUris.{is_kept, uri_byte}
+use Rattle.report_formats.specs.JsonText.{byte_end, version_members}
 use Rattle.report_formats.specs.SarifCodes.{rule_codes}
-use Rattle.report_formats.specs.SarifText.{rule_value}
+use Rattle.report_formats.specs.SarifText.{end_place, kind_members, rule_value, tool_members}
 use Rattle.report.specs.declared.codes.Wording.{Wording}
 use Rattle.report_formats.specs.declared.strings.Spelling.{Spelling}
 use Rattle.report_formats.specs.declared.strings.Spelling.TheVariants.{InString, InUri}
+use Rattle.report_formats.specs.declared.ends.Region.{Region}
 use Rattle.report_formats.specs.declared.pieces.FormatPiece.{FormatPiece}
 use Rattle.report_formats.specs.declared.pieces.FormatPiece.TheVariants.{Plain, Number, Spelled}
 
@@ -63,12 +66,23 @@ members_listed later (m ∷ ms) = comma_if later ++ (quoted m.0 ++ 58 ∷ (compa
 abbrev pub opened : Bool → List (List ℕ × Data) → List ℕ
 opened later ms = comma_if later ++ 123 ∷ members_listed false ms
 
+-- what stands behind the packages of a report as JSON
+abbrev pub json_end : Wording → List ℕ
+json_end wording = codes "]" ++ (members_listed true (version_members wording) ++ codes "}\n")
+
+-- what a log says behind its rules and before its results
+abbrev pub front_end : Wording → List ℕ
+front_end wording =
+    codes "]}}"
+    ++ (members_listed true (kind_members wording) ++ codes ",\"columnKind\":\"unicodeCodePoints\",\"results\":[")
+
 -- what a log says before its results, with a rule for each of these codes
 abbrev pub front_for : Wording → List DiagnosticCode → List ℕ
 front_for wording ruled =
     (codes "{\"$schema\":\"https://json.schemastore.org/sarif-2.1.0.json\",\"version\":\"2.1.0\","
-    ++ codes "\"runs\":[{\"tool\":{\"driver\":{\"name\":\"ctxvet\",\"rules\":[")
-    ++ (listed false (map (rule_value wording) ruled) ++ codes "]}},\"columnKind\":\"unicodeCodePoints\",\"results\":[")
+    ++ codes "\"runs\":[{\"tool\":{\"driver\":{\"name\":\"ctxvet\"")
+    ++ (members_listed true (tool_members wording)
+    ++ (codes ",\"rules\":[" ++ (listed false (map (rule_value wording) ruled) ++ front_end wording)))
 
 abbrev pub log_front : Wording → List ℕ
 log_front wording = front_for wording (rule_codes wording)
@@ -106,10 +120,20 @@ pub record IsBytePlace (source : Option Source) (offset : ℕ) (place : Place) :
   pub line : place.line ≡ line_of (bytes_of source) offset
   pub column : place.column ≡ column_of (bytes_of source) offset
 
+-- the place of what is said of a source, and where its name ends, with columns in bytes
+pub record IsByteRegion (wording : Wording) (source : Option Source) (said : Entry) (region : Region) : Type 0 where
+  pub start : IsBytePlace source said.offset region.start
+  pub end : region.end ≡ byte_end wording source said
+
 -- the place of an offset in a source, with its column in code points
 pub record IsPlaceOf (source : Option Source) (offset : ℕ) (place : Place) : Type 0 where
   pub line : place.line ≡ line_of (bytes_of source) offset
   pub column : place.column ≡ code_point_column (bytes_of source) offset
+
+-- the place of what is said of a source, and where its region ends, with columns in code points
+pub record IsRegionOf (wording : Wording) (source : Option Source) (said : Entry) (region : Region) : Type 0 where
+  pub start : IsPlaceOf source said.offset region.start
+  pub end : region.end ≡ end_place wording source said
 
 -- a cursor stands at a byte of a source, or at its end, with the place of that byte, whose column counts code points
 pub record IsAtPlace (sources : List Source) (cursor : Cursor) : Type 0 where

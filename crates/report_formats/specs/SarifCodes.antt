@@ -61,6 +61,18 @@ level GroupOverwritten = codes "error"
 level LeftToLiveGroup = codes "error"
 level code = codes "warning"
 
+-- what a code is about
+abbrev pub topic : DiagnosticCode → List ℕ
+topic Discarded = codes "context"
+topic Overwritten = codes "context"
+topic NotCalled = codes "context"
+topic CancelMisused = codes "context"
+topic LeftToLiveGroup = codes "context"
+topic GroupIsLive = codes "errgroup"
+topic GroupOverwritten = codes "errgroup"
+topic GroupMisused = codes "errgroup"
+topic code = codes "ctxvet"
+
 -- the notes of such a diagnostic are the places of a way through a body
 abbrev pub tells_way : DiagnosticCode → Bool
 tells_way Overwritten = true

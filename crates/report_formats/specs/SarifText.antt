@@ -1,13 +1,14 @@
 -- The text of a report in SARIF 2.1.0 (OASIS, "Static Analysis Results Interchange Format"): one run of `ctxvet`, and a
 -- newline. The text of an object is what `serde_json` writes for it (`compact_text`). A finding that is accepted is a
 -- result that is suppressed (section 3.35). The notes of a way through a body are one code flow, and others are related
--- locations.
-use Rattle.std.specs.Prelude.{ℕ, Bool, true, false, ◌==◌, List, [], ◌∷◌, ◌++◌, Option, None, Some, slice_get, if◌then◌else◌, map, flat_map, codes}
+-- locations. By the second edition of the rules it says more: the version, help for each rule, where names end, and
+-- a fingerprint of each finding.
+use Rattle.std.specs.Prelude.{ℕ, Bool, true, false, List, [], ◌∷◌, ◌++◌, Option, None, Some, option_map, slice_get, if◌then◌else◌, map, flat_map, codes}
 use Rattle.serde_json.specs.Data.{Data, string}
 use Rattle.serde_json.specs.Written.{compact_text}
 use Rattle.accepting.specs.Findings.{AcceptedBy, FindingEntry, FoundEntry, line, baseline}
 use Rattle.lexer.specs.declared.source.Source.{Source}
-use Rattle.lexer.specs.Bytes.{minus}
+use Rattle.lexer.specs.declared.source.Place.{Place}
 use Rattle.lexer.specs.Place.{line_of}
 use Rattle.report.specs.Codes.{code_number, code_words}
 use Rattle.report.specs.Entries.{Entry}
@@ -15,18 +16,18 @@ use Rattle.report.specs.Notes.{note_words, source_of}
 use Rattle.report.specs.ReportText.{name_of, bytes_of}
 use Rattle.report.specs.declared.codes.DiagnosticCode.{DiagnosticCode}
 use Rattle.report.specs.declared.codes.Wording.{Wording}
+use Rattle.report.specs.declared.codes.Wording.TheVariants.{First, Second}
 use Rattle.report.specs.declared.notes.Note.{Note}
 use Rattle.report_formats.specs.Objects.{object_of, list_of, whole}
 use Rattle.report_formats.specs.CodePoints.{code_point_column}
 use Rattle.report_formats.specs.FileUris.{is_absolute, file_uri}
-use Rattle.report_formats.specs.SarifCodes.{rule_codes, rule_index, rule_text, level, tells_way}
+use Rattle.report_formats.specs.Fingerprints.{fingerprint}
+use Rattle.report_formats.specs.NameEnds.{is_nameless, told_end}
+use Rattle.report_formats.specs.RuleHelp.{help_markdown, help_text, meaning}
+use Rattle.report_formats.specs.SarifCodes.{level, rule_codes, rule_index, rule_text, tells_way, topic}
 use Rattle.report_formats.specs.Told.{notes_told, reason_text}
 use Rattle.report_formats.specs.declared.style.Style.{Style}
-
--- the diagnostic speaks of no name: its name is `-`
-abbrev pub is_nameless : List ℕ → Bool
-is_nameless (b ∷ []) = b == minus
-is_nameless name = false
+use Rattle.report_formats.specs.declared.version.TheConstants.{INFORMATION_URI, VERSION}
 
 -- the name, and a space
 abbrev pub name_before : List ℕ → List ℕ
@@ -48,24 +49,48 @@ artifact name = object_of ((codes "uri", string (file_uri name)) ∷ base_member
 abbrev pub only : List ℕ → Data → Data
 only key value = object_of ((key, value) ∷ [])
 
--- a place in a file, by the file's name, the line, and the column in code points
-abbrev pub location_members : List ℕ → ℕ → ℕ → List (List ℕ × Data)
-location_members name start_line start_column = (
+-- where a region ends, if that is told
+abbrev pub end_members : Option Place → List (List ℕ × Data)
+end_members None = []
+end_members (Some end) = (codes "endLine", whole end.line) ∷ (codes "endColumn", whole end.column) ∷ []
+
+-- a place in a file, by the file's name, the line, and the column in code points, and where its region ends
+abbrev pub location_members : List ℕ → ℕ → ℕ → Option Place → List (List ℕ × Data)
+location_members name start_line start_column end = (
   codes "physicalLocation",
   object_of (
       (codes "artifactLocation", artifact name)
       ∷ (
         codes "region",
         object_of (
-            (codes "startLine", whole start_line) ∷ (codes "startColumn", whole start_column) ∷ []),
+            (codes "startLine", whole start_line) ∷ (codes "startColumn", whole start_column) ∷ end_members end),
       )
       ∷ []),
 ) ∷ []
 
--- the place of an offset in a source
-abbrev pub location_of : Option Source → ℕ → List (List ℕ × Data)
-location_of source offset =
+-- the place of an offset in a source, and where its region ends
+abbrev pub location_to : Option Source → ℕ → Option Place → List (List ℕ × Data)
+location_to source offset =
     location_members (name_of source) (line_of (bytes_of source) offset) (code_point_column (bytes_of source) offset)
+
+-- the place alone
+abbrev pub location_of : Option Source → ℕ → List (List ℕ × Data)
+location_of source offset = location_to source offset None
+
+-- an offset of a source, as a line and a column in code points
+abbrev pub place_at : Option Source → ℕ → Place
+place_at source offset = record {
+  line = line_of (bytes_of source) offset;
+  column = code_point_column (bytes_of source) offset;
+}
+
+-- where the name of what is said ends, if that is told
+abbrev pub end_place : Wording → Option Source → Entry → Option Place
+end_place wording source said = option_map (place_at source) (told_end wording source said)
+
+-- where what is said of a source stands
+abbrev pub said_location : Wording → Option Source → Entry → List (List ℕ × Data)
+said_location wording source said = location_to source said.offset (end_place wording source said)
 
 -- what is said of a source
 abbrev pub result_members : Wording → Option Source → Entry → List (List ℕ × Data)
@@ -74,8 +99,14 @@ result_members wording source said =
     ∷ (codes "ruleIndex", whole (rule_index said.code))
     ∷ (codes "level", string (level said.code))
     ∷ (codes "message", only (codes "text") (string (message wording said)))
-    ∷ (codes "locations", list_of (object_of (location_of source said.offset) ∷ []))
+    ∷ (codes "locations", list_of (object_of (said_location wording source said) ∷ []))
     ∷ []
+
+-- by what a finding is known again
+abbrev pub fingerprint_members : Wording → Option Source → Entry → List (List ℕ × Data)
+fingerprint_members First source said = []
+fingerprint_members Second source said =
+    (codes "partialFingerprints", only (codes "ctxvet/v1") (string (fingerprint source said))) ∷ []
 
 -- where a finding is accepted: in its source, or elsewhere
 abbrev pub kind_text : AcceptedBy → List ℕ
@@ -119,32 +150,64 @@ note_members wording code (n ∷ ns) =
 abbrev pub result_value : Style → List Source → FindingEntry → Data
 result_value style sources f = object_of (
     result_members style.wording (slice_get sources f.said.file) f.said
-    ++ (suppression_members f.accepted ++ note_members style.wording f.said.code (notes_told style f)))
+    ++ (fingerprint_members style.wording (slice_get sources f.said.file) f.said
+    ++ (suppression_members f.accepted ++ note_members style.wording f.said.code (notes_told style f))))
 
 -- the findings of one package
 abbrev pub package_results : Style → FoundEntry → List Data
 package_results style p = map (result_value style p.sources) p.findings
+
+-- what is said of a rule beside its text
+abbrev pub detail_members : Wording → DiagnosticCode → List (List ℕ × Data)
+detail_members First code = []
+detail_members Second code =
+    (codes "fullDescription", only (codes "text") (string (meaning code)))
+    ∷ (
+      codes "help",
+      object_of (
+          (codes "text", string (help_text code)) ∷ (codes "markdown", string (help_markdown code)) ∷ []),
+    )
+    ∷ (codes "defaultConfiguration", only (codes "level") (string (level code)))
+    ∷ (codes "properties", only (codes "tags") (list_of (string (codes "go") ∷ string (topic code) ∷ [])))
+    ∷ []
 
 -- the rule of a code
 abbrev pub rule_value : Wording → DiagnosticCode → Data
 rule_value wording code = object_of (
     (codes "id", string (code_number code))
     ∷ (codes "shortDescription", only (codes "text") (string (rule_text wording code)))
-    ∷ [])
+    ∷ detail_members wording code)
+
+-- where more stands about the program, if that is set
+abbrev pub information_members : (uri : List ℕ) → List (List ℕ × Data)
+information_members [] = []
+information_members (b ∷ bs) = (codes "informationUri", string (b ∷ bs)) ∷ []
+
+-- which program found the results
+abbrev pub tool_members : Wording → List (List ℕ × Data)
+tool_members First = []
+tool_members Second =
+    (codes "version", string VERSION.now)
+    ∷ (codes "semanticVersion", string VERSION.now)
+    ∷ information_members INFORMATION_URI.now
 
 -- what found the results, with a rule for each code
 abbrev pub driver : Wording → Data
 driver wording = object_of (
     (codes "name", string (codes "ctxvet"))
-    ∷ (codes "rules", list_of (map (rule_value wording) (rule_codes wording)))
-    ∷ [])
+    ∷ (tool_members wording
+    ++ ((codes "rules", list_of (map (rule_value wording) (rule_codes wording))) ∷ [])))
+
+-- of which kind the run is, by which later runs are compared with it
+abbrev pub kind_members : Wording → List (List ℕ × Data)
+kind_members First = []
+kind_members Second = (codes "automationDetails", only (codes "id") (string (codes "ctxvet/"))) ∷ []
 
 abbrev pub run_value : Wording → List Data → Data
 run_value wording results = object_of (
     (codes "tool", only (codes "driver") (driver wording))
-    ∷ (codes "columnKind", string (codes "unicodeCodePoints"))
-    ∷ (codes "results", list_of results)
-    ∷ [])
+    ∷ (kind_members wording
+    ++ ((codes "columnKind", string (codes "unicodeCodePoints")) ∷ (codes "results", list_of results) ∷ [])))
 
 abbrev pub log_value : Wording → List Data → Data
 log_value wording results = object_of (

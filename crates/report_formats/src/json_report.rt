@@ -3,14 +3,17 @@
 ghost use Rattle.std.specs.Prelude.{◌≡◌, ◌++◌, false, true, map, option_map, slice_get};
 ghost use Rattle.accepting.specs.Findings.{accepted_view, finding_view, found_view};
 ghost use Rattle.accepting.specs.declared.findings.Verdict.TheVariants.{Yes};
+ghost use Rattle.report.specs.Cursors.{IsAt};
 ghost use Rattle.report.specs.Entries.{entry_of, texts_of};
 ghost use Rattle.report.specs.Writing.{refusals_after, IsWritten};
-ghost use Rattle.report_formats.specs.JsonText.{finding_value, json_text, note_value, package_value, place_members_at, reason_members, said_members, verdict_members, why_members};
-ghost use Rattle.report_formats.specs.Pieces.{IsBytePlace, listed, members_listed, opened};
+ghost use Rattle.report_formats.specs.JsonText.{byte_end, end_members, finding_value, json_text, kind_members, note_value, package_value, place_members_at, reason_members, said_members, verdict_members, why_members};
+ghost use Rattle.report_formats.specs.Pieces.{IsBytePlace, IsByteRegion, json_end, listed, members_listed, opened};
 ghost use Rattle.report_formats.specs.Told.{notes_told};
 ghost use Rattle.serde_json.specs.Data.{string};
 ghost use Rattle.serde_json.specs.Written.{comma_if, compact_text};
 
+use crate::ends::{Region, told_end};
+use crate::note_kinds::{kind_text, taken_text};
 use crate::notes::{note_place, text_parts};
 use crate::pieces::FormatPiece::{Number, Plain, Spelled};
 use crate::pieces::{comma, name_of, put_each};
@@ -19,7 +22,9 @@ use crate::strings::put_spelled;
 use crate::style::{Style, notes_told, reason_text};
 use accepting::{Acceptance, Finding, FoundPackage, Verdict, verdict_of};
 use lexer::{Place, Source};
-use report::{Diagnostic, Note, Sink, Wording, WriteFault, first_byte, moved, put_all};
+use report::{
+    Cursor, Diagnostic, Note, NoteText, Sink, Wording, WriteFault, first_byte, moved, put_all,
+};
 
 /// Writes the report as one JSON object and a newline. Where the findings are in their order, this reads each source
 /// but once.
@@ -34,7 +39,27 @@ pub fn write_json<S: Sink>(
 {
     put_all(b"{\"packages\":[", sink)?;
     write_packages(style, packages, sink)?;
-    put_each(&[Plain("],\"version\":"), Number(1), Plain("}\n")], sink)
+    close_report(style.wording, sink)
+}
+
+/// Writes of which version a report is, and by which edition of the rules, and its end.
+fn close_report<S: Sink>(wording: Wording, sink: &mut S) -> Result<(), WriteFault>
+    ensures taken { IsWritten (json_end wording) (S.taken sink.old) (S.taken sink.new) result }
+    ensures refusals { S.refusals sink.new ≡ refusals_after (S.refusals sink.old) result }
+{
+    match wording {
+        Wording::First => put_each(&[Plain("],\"version\":"), Number(1), Plain("}\n")], sink),
+        Wording::Second => put_each(
+            &[
+                Plain("],\"version\":"),
+                Number(2),
+                Plain(",\"edition\":"),
+                Number(2),
+                Plain("}\n"),
+            ],
+            sink,
+        ),
+    }
 }
 
 fn write_packages<S: Sink>(
@@ -151,22 +176,57 @@ fn write_findings<S: Sink>(
     for finding in findings {
         let diagnostic = &finding.diagnostic;
         cursor = moved(cursor, sources, diagnostic.file, diagnostic.offset as usize);
-        write_finding(style, sources, finding, cursor.place, is_later, sink)?;
+        let region = region_from(style.wording, sources, diagnostic, cursor);
+        write_finding(style, sources, finding, region, is_later, sink)?;
         is_later = true;
     }
     Ok(())
 }
 
-/// Writes a finding, which stands at this place.
+/// Where a diagnostic stands, from a cursor at its place. Columns count bytes.
+fn region_from<'a>(
+    wording: Wording,
+    sources: &'a [Source],
+    diagnostic: &'a Diagnostic<'a>,
+    cursor: Cursor,
+) -> Region
+    requires at { IsAt sources.now cursor }
+    requires start { IsBytePlace (slice_get sources.now diagnostic.now.file) diagnostic.now.offset cursor.place }
+    ensures { IsByteRegion wording (slice_get sources.now diagnostic.now.file) (entry_of diagnostic.now) result }
+{
+    Region {
+        start: cursor.place,
+        end: end_from(wording, sources, diagnostic, cursor),
+    }
+}
+
+/// Where the name of a diagnostic ends, from a cursor at its place, if that is told. The column counts bytes.
+fn end_from<'a>(
+    wording: Wording,
+    sources: &'a [Source],
+    diagnostic: &'a Diagnostic<'a>,
+    cursor: Cursor,
+) -> Option<Place>
+    requires { IsAt sources.now cursor }
+    ensures { result ≡ byte_end wording (slice_get sources.now diagnostic.now.file) (entry_of diagnostic.now) }
+{
+    match told_end(wording, sources, diagnostic) {
+        Some(offset) => Some(moved(cursor, sources, diagnostic.file, offset).place),
+        None => None,
+    }
+}
+
+/// Writes a finding, which stands there.
 fn write_finding<'a, S: Sink>(
     style: Style,
     sources: &'a [Source],
     finding: &'a Finding<'a>,
-    place: Place,
+    region: Region,
     is_later: bool,
     sink: &mut S,
 ) -> Result<(), WriteFault>
-    requires { IsBytePlace (slice_get sources.now finding.now.diagnostic.file) finding.now.diagnostic.offset place }
+    requires { IsByteRegion style.wording (slice_get sources.now finding.now.diagnostic.file)
+        (entry_of finding.now.diagnostic) region }
     ensures taken { IsWritten
         (comma_if is_later ++ compact_text (finding_value style sources.now (finding_view finding.now)))
         (S.taken sink.old) (S.taken sink.new) result }
@@ -176,7 +236,7 @@ fn write_finding<'a, S: Sink>(
         style.wording,
         sources,
         &finding.diagnostic,
-        place,
+        region,
         is_later,
         sink,
     )?;
@@ -185,22 +245,28 @@ fn write_finding<'a, S: Sink>(
     put_all(b"}", sink)
 }
 
-/// Writes what is said of a diagnostic, which stands at this place.
+/// Writes what is said of a diagnostic, which stands there.
 fn open_diagnostic<'a, S: Sink>(
     wording: Wording,
     sources: &'a [Source],
     diagnostic: &'a Diagnostic<'a>,
-    place: Place,
+    region: Region,
     is_later: bool,
     sink: &mut S,
 ) -> Result<(), WriteFault>
-    requires { IsBytePlace (slice_get sources.now diagnostic.now.file) diagnostic.now.offset place }
+    requires { IsByteRegion wording (slice_get sources.now diagnostic.now.file) (entry_of diagnostic.now) region }
     ensures taken { IsWritten
         (opened is_later (said_members wording (slice_get sources.now diagnostic.now.file) (entry_of diagnostic.now)))
         (S.taken sink.old) (S.taken sink.new) result }
     ensures refusals { S.refusals sink.new ≡ refusals_after (S.refusals sink.old) result }
 {
-    open_place(name_of(sources, diagnostic.file), place, is_later, sink)?;
+    open_place(
+        name_of(sources, diagnostic.file),
+        region.start,
+        is_later,
+        sink,
+    )?;
+    write_end(region.end, sink)?;
     put_each(
         &[
             Plain(",\"code\":\""),
@@ -210,6 +276,25 @@ fn open_diagnostic<'a, S: Sink>(
             Plain("\",\"text\":\""),
             Spelled(InString, diagnostic.code.words(wording)),
             Plain("\""),
+        ],
+        sink,
+    )
+}
+
+/// Writes where a name ends, if that is told.
+fn write_end<S: Sink>(end: Option<Place>, sink: &mut S) -> Result<(), WriteFault>
+    ensures taken { IsWritten (members_listed true (end_members end)) (S.taken sink.old) (S.taken sink.new) result }
+    ensures refusals { S.refusals sink.new ≡ refusals_after (S.refusals sink.old) result }
+{
+    let Some(end) = end else {
+        return Ok(());
+    };
+    put_each(
+        &[
+            Plain(",\"end_line\":"),
+            Number(end.line),
+            Plain(",\"end_column\":"),
+            Number(end.column),
         ],
         sink,
     )
@@ -307,6 +392,7 @@ fn write_note<'a, S: Sink>(
         is_later,
         sink,
     )?;
+    write_kind(wording, note.text, sink)?;
     put_each(
         &[
             Plain(",\"text\":\""),
@@ -319,4 +405,24 @@ fn write_note<'a, S: Sink>(
         ],
         sink,
     )
+}
+
+/// Writes of which kind a note is.
+fn write_kind<S: Sink>(wording: Wording, text: NoteText<'_>, sink: &mut S) -> Result<(), WriteFault>
+    ensures taken { IsWritten (members_listed true (kind_members wording text.entry))
+        (S.taken sink.old) (S.taken sink.new) result }
+    ensures refusals { S.refusals sink.new ≡ refusals_after (S.refusals sink.old) result }
+{
+    match wording {
+        Wording::First => Ok(()),
+        Wording::Second => put_each(
+            &[
+                Plain(",\"kind\":\""),
+                Spelled(InString, kind_text(text)),
+                Plain("\""),
+                Plain(taken_text(text)),
+            ],
+            sink,
+        ),
+    }
 }

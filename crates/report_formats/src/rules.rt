@@ -4,7 +4,7 @@ ghost use Rattle.std.specs.Prelude.{◌≡◌, Some, option_map, slice_get};
 ghost use Rattle.report.specs.Codes.{code_number};
 ghost use Rattle.report.specs.declared.codes.DiagnosticCode.{DiagnosticCode as Code};
 ghost use Rattle.report.specs.declared.codes.Wording.TheVariants.{Second};
-ghost use Rattle.report_formats.specs.SarifCodes.{rule_codes, rule_index, rule_text, level, tells_way};
+ghost use Rattle.report_formats.specs.SarifCodes.{level, rule_codes, rule_index, rule_text, tells_way, topic};
 
 use report::{DiagnosticCode, TextFault, TreeFault, Wording};
 
@@ -106,6 +106,23 @@ pub fn level(code: DiagnosticCode) -> &'static str
         | DiagnosticCode::GroupOverwritten
         | DiagnosticCode::LeftToLiveGroup => "error",
         _ => "warning",
+    }
+}
+
+/// What a code is about.
+pub fn topic(code: DiagnosticCode) -> &'static str
+    ensures { result.now ≡ topic code }
+{
+    match code {
+        DiagnosticCode::NotCalled
+        | DiagnosticCode::Discarded
+        | DiagnosticCode::Overwritten
+        | DiagnosticCode::CancelMisused
+        | DiagnosticCode::LeftToLiveGroup => "context",
+        DiagnosticCode::GroupIsLive
+        | DiagnosticCode::GroupOverwritten
+        | DiagnosticCode::GroupMisused => "errgroup",
+        _ => "ctxvet",
     }
 }
 

@@ -1,26 +1,31 @@
 //! A report in SARIF 2.1.0.
 
-ghost use Rattle.std.specs.Prelude.{◌≡◌, ◌++◌, false, true, flat_map, map, option_map, slice_get};
+ghost use Rattle.std.specs.Prelude.{◌≡◌, ◌++◌, codes, false, true, flat_map, map, option_map, slice_get};
 ghost use Rattle.accepting.specs.Findings.{accepted_view, finding_view, found_view};
 ghost use Rattle.report.specs.Entries.{entry_of};
 ghost use Rattle.report.specs.Writing.{refusals_after, IsWritten};
 ghost use Rattle.report_formats.specs.FileUris.{is_absolute, uri_scheme};
 ghost use Rattle.report_formats.specs.Objects.{members_of};
-ghost use Rattle.report_formats.specs.Pieces.{after_results, base_text, IsPlaceOf, listed, log_front, members_listed, note_end, note_front, notes_end, notes_front, opened};
-ghost use Rattle.report_formats.specs.SarifText.{kind_text, location_members, name_before, note_members, package_results, result_members, result_value, rule_value, sarif_text, suppression_members, told_note};
+ghost use Rattle.report_formats.specs.Pieces.{after_results, base_text, IsAtPlace, IsPlaceOf, IsRegionOf, listed, log_front, members_listed, note_end, note_front, notes_end, notes_front, opened};
+ghost use Rattle.report_formats.specs.SarifText.{end_members, end_place, fingerprint_members, kind_text, location_members, name_before, note_members, package_results, result_members, result_value, sarif_text, suppression_members, told_note};
 ghost use Rattle.serde_json.specs.Written.{comma_if, compact_text, members_text};
 
 use crate::columns::moved_in_code_points;
+use crate::ends::{Region, bytes_of, told_end};
+use crate::fingerprints::sum_at;
 use crate::notes::text_parts;
 use crate::pieces::FormatPiece::{Number, Plain, Spelled};
 use crate::pieces::{comma, name_of, put_each};
-use crate::rules::{level, rule_codes, rule_index, rule_text, tells_way};
+use crate::rules::{level, rule_codes, rule_index, tells_way};
+use crate::sarif_rules::{run_kind, write_rules, write_tool};
 use crate::strings::Spelling::{InString, InUri};
 use crate::strings::put_spelled;
 use crate::style::{Style, notes_told, reason_text};
 use accepting::{Acceptance, Finding, FoundPackage};
 use lexer::{Place, Source};
-use report::{Diagnostic, DiagnosticCode, Note, Sink, Wording, WriteFault, first_byte, put_all};
+use report::{
+    Cursor, Diagnostic, DiagnosticCode, Note, Sink, Wording, WriteFault, first_byte, put_all,
+};
 
 /// Writes the report as a SARIF log of one run and a newline. Where the findings are in their order, this reads each
 /// source but once.
@@ -45,51 +50,17 @@ fn open_log<S: Sink>(wording: Wording, sink: &mut S) -> Result<(), WriteFault>
 {
     put_all(
         b"{\"$schema\":\"https://json.schemastore.org/sarif-2.1.0.json\",\"version\":\"2.1.0\",\
-        \"runs\":[{\"tool\":{\"driver\":{\"name\":\"ctxvet\",\"rules\":[",
+        \"runs\":[{\"tool\":{\"driver\":{\"name\":\"ctxvet\"",
         sink,
     )?;
+    write_tool(wording, sink)?;
+    put_all(b",\"rules\":[", sink)?;
     write_rules(wording, rule_codes(wording), sink)?;
-    put_all(
-        b"]}},\"columnKind\":\"unicodeCodePoints\",\"results\":[",
-        sink,
-    )
-}
-
-fn write_rules<S: Sink>(
-    wording: Wording,
-    codes: &[DiagnosticCode],
-    sink: &mut S,
-) -> Result<(), WriteFault>
-    ensures taken { IsWritten (listed false (map (rule_value wording) codes.now))
-        (S.taken sink.old) (S.taken sink.new) result }
-    ensures refusals { S.refusals sink.new ≡ refusals_after (S.refusals sink.old) result }
-{
-    let mut is_later = false;
-    for code in codes {
-        write_rule(wording, *code, is_later, sink)?;
-        is_later = true;
-    }
-    Ok(())
-}
-
-fn write_rule<S: Sink>(
-    wording: Wording,
-    code: DiagnosticCode,
-    is_later: bool,
-    sink: &mut S,
-) -> Result<(), WriteFault>
-    ensures taken { IsWritten (comma_if is_later ++ compact_text (rule_value wording code))
-        (S.taken sink.old) (S.taken sink.new) result }
-    ensures refusals { S.refusals sink.new ≡ refusals_after (S.refusals sink.old) result }
-{
     put_each(
         &[
-            Plain(comma(is_later)),
-            Plain("{\"id\":\""),
-            Spelled(InString, code.number()),
-            Plain("\",\"shortDescription\":{\"text\":\""),
-            Spelled(InString, rule_text(wording, code)),
-            Plain("\"}}"),
+            Plain("]}}"),
+            Plain(run_kind(wording)),
+            Plain(",\"columnKind\":\"unicodeCodePoints\",\"results\":["),
         ],
         sink,
     )
@@ -141,29 +112,65 @@ fn write_package_results<S: Sink>(
     for finding in findings {
         let diagnostic = &finding.diagnostic;
         cursor = moved_in_code_points(cursor, sources, diagnostic.file, diagnostic.offset as usize);
-        write_result(style, sources, finding, cursor.place, is_later, sink)?;
+        let region = region_from(style.wording, sources, diagnostic, cursor);
+        write_result(style, sources, finding, region, is_later, sink)?;
         is_later = true;
     }
     Ok(())
 }
 
-/// Writes a result, which stands at this place. Its column counts code points.
+/// Where a diagnostic stands, from a cursor at its place. Columns count code points.
+fn region_from<'a>(
+    wording: Wording,
+    sources: &'a [Source],
+    diagnostic: &'a Diagnostic<'a>,
+    cursor: Cursor,
+) -> Region
+    requires at { IsAtPlace sources.now cursor }
+    requires start { IsPlaceOf (slice_get sources.now diagnostic.now.file) diagnostic.now.offset cursor.place }
+    ensures { IsRegionOf wording (slice_get sources.now diagnostic.now.file) (entry_of diagnostic.now) result }
+{
+    Region {
+        start: cursor.place,
+        end: end_from(wording, sources, diagnostic, cursor),
+    }
+}
+
+/// Where the name of a diagnostic ends, from a cursor at its place, if that is told. The column counts code points.
+fn end_from<'a>(
+    wording: Wording,
+    sources: &'a [Source],
+    diagnostic: &'a Diagnostic<'a>,
+    cursor: Cursor,
+) -> Option<Place>
+    requires { IsAtPlace sources.now cursor }
+    ensures { result ≡ end_place wording (slice_get sources.now diagnostic.now.file) (entry_of diagnostic.now) }
+{
+    match told_end(wording, sources, diagnostic) {
+        Some(offset) => Some(moved_in_code_points(cursor, sources, diagnostic.file, offset).place),
+        None => None,
+    }
+}
+
+/// Writes a result, which stands there. Columns count code points.
 fn write_result<'a, S: Sink>(
     style: Style,
     sources: &'a [Source],
     finding: &'a Finding<'a>,
-    place: Place,
+    region: Region,
     is_later: bool,
     sink: &mut S,
 ) -> Result<(), WriteFault>
-    requires { IsPlaceOf (slice_get sources.now finding.now.diagnostic.file) finding.now.diagnostic.offset place }
+    requires { IsRegionOf style.wording (slice_get sources.now finding.now.diagnostic.file)
+        (entry_of finding.now.diagnostic) region }
     ensures taken { IsWritten
         (comma_if is_later ++ compact_text (result_value style sources.now (finding_view finding.now)))
         (S.taken sink.old) (S.taken sink.new) result }
     ensures refusals { S.refusals sink.new ≡ refusals_after (S.refusals sink.old) result }
 {
     let diagnostic = &finding.diagnostic;
-    open_result(style.wording, sources, diagnostic, place, is_later, sink)?;
+    open_result(style.wording, sources, diagnostic, region, is_later, sink)?;
+    write_fingerprint(style.wording, sources, diagnostic, sink)?;
     write_suppression(finding.acceptance, sink)?;
     close_result(
         style.wording,
@@ -173,16 +180,16 @@ fn write_result<'a, S: Sink>(
     )
 }
 
-/// Writes what is said of a result, which stands at this place. Its column counts code points.
+/// Writes what is said of a result, which stands there. Columns count code points.
 fn open_result<'a, S: Sink>(
     wording: Wording,
     sources: &'a [Source],
     diagnostic: &'a Diagnostic<'a>,
-    place: Place,
+    region: Region,
     is_later: bool,
     sink: &mut S,
 ) -> Result<(), WriteFault>
-    requires { IsPlaceOf (slice_get sources.now diagnostic.now.file) diagnostic.now.offset place }
+    requires { IsRegionOf wording (slice_get sources.now diagnostic.now.file) (entry_of diagnostic.now) region }
     ensures taken { IsWritten
         (opened is_later (result_members wording (slice_get sources.now diagnostic.now.file) (entry_of diagnostic.now)))
         (S.taken sink.old) (S.taken sink.new) result }
@@ -207,13 +214,43 @@ fn open_result<'a, S: Sink>(
         ],
         sink,
     )?;
-    open_location(name_of(sources, diagnostic.file), place, sink)?;
+    open_location(name_of(sources, diagnostic.file), region, sink)?;
     put_all(b"}]", sink)
 }
 
-/// Writes where something stands: a file, by its name, and a place in it, whose column counts code points.
-fn open_location<S: Sink>(file: &str, place: Place, sink: &mut S) -> Result<(), WriteFault>
-    ensures taken { IsWritten (opened false (location_members file.now place.line place.column))
+/// Writes by what a result is known again.
+fn write_fingerprint<'a, S: Sink>(
+    wording: Wording,
+    sources: &'a [Source],
+    diagnostic: &'a Diagnostic<'a>,
+    sink: &mut S,
+) -> Result<(), WriteFault>
+    ensures taken { IsWritten (members_listed true
+        (fingerprint_members wording (slice_get sources.now diagnostic.now.file) (entry_of diagnostic.now)))
+        (S.taken sink.old) (S.taken sink.new) result }
+    ensures refusals { S.refusals sink.new ≡ refusals_after (S.refusals sink.old) result }
+{
+    match wording {
+        Wording::First => Ok(()),
+        Wording::Second => put_each(
+            &[
+                Plain(",\"partialFingerprints\":{\"ctxvet/v1\":\""),
+                Spelled(InString, diagnostic.code.number()),
+                Plain("/"),
+                Spelled(InString, diagnostic.name),
+                Plain("/"),
+                Number(sum_at(bytes_of(sources, diagnostic.file), diagnostic.offset)),
+                Plain("\"}"),
+            ],
+            sink,
+        ),
+    }
+}
+
+/// Writes where something stands: a file, by its name, and a place in it, whose columns count code points.
+fn open_location<S: Sink>(file: &str, region: Region, sink: &mut S) -> Result<(), WriteFault>
+    ensures taken { IsWritten (opened false
+        (location_members file.now region.start.line region.start.column region.end))
         (S.taken sink.old) (S.taken sink.new) result }
     ensures refusals { S.refusals sink.new ≡ refusals_after (S.refusals sink.old) result }
 {
@@ -224,9 +261,30 @@ fn open_location<S: Sink>(file: &str, place: Place, sink: &mut S) -> Result<(), 
             Spelled(InUri, file),
             Plain(base_of(file)),
             Plain("},\"region\":{\"startLine\":"),
-            Number(place.line),
+            Number(region.start.line),
             Plain(",\"startColumn\":"),
-            Number(place.column),
+            Number(region.start.column),
+        ],
+        sink,
+    )?;
+    close_region(region.end, sink)
+}
+
+/// Writes where a region ends, if that is told, and its end.
+fn close_region<S: Sink>(end: Option<Place>, sink: &mut S) -> Result<(), WriteFault>
+    ensures taken { IsWritten (members_listed true (end_members end) ++ codes "}}")
+        (S.taken sink.old) (S.taken sink.new) result }
+    ensures refusals { S.refusals sink.new ≡ refusals_after (S.refusals sink.old) result }
+{
+    let Some(end) = end else {
+        return put_all(b"}}", sink);
+    };
+    put_each(
+        &[
+            Plain(",\"endLine\":"),
+            Number(end.line),
+            Plain(",\"endColumn\":"),
+            Number(end.column),
             Plain("}}"),
         ],
         sink,
@@ -353,8 +411,12 @@ fn write_note<'a, S: Sink>(
     let (front, end) = around_note(is_step);
     let offset = note.offset as usize;
     let cursor = moved_in_code_points(first_byte(note.file), note.sources, note.file, offset);
+    let region = Region {
+        start: cursor.place,
+        end: None,
+    };
     put_each(&[Plain(comma(is_later)), Plain(front)], sink)?;
-    open_location(name_of(note.sources, note.file), cursor.place, sink)?;
+    open_location(name_of(note.sources, note.file), region, sink)?;
     put_each(
         &[
             Plain(",\"message\":{\"text\":\""),

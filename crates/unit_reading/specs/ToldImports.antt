@@ -1,6 +1,6 @@
 -- What is kept of the packages that a unit imports, as it is read of the files that the unit names, and which of it
 -- counts. Which bytes a file has, no contract can say.
-use Rattle.std.specs.Prelude.{◌≡◌, ◌≢◌, ◌⊎◌, ⊤, ℕ, Bool, List, Option, Some, None, if◌then◌else◌, All, map, option_and_then, string_bytes, ◌&&◌, not}
+use Rattle.std.specs.Prelude.{◌≡◌, ◌≢◌, ◌⊎◌, ⊤, ℕ, Bool, List, Option, Some, None, if◌then◌else◌, All, map, option_and_then, string_bytes, ◌==◌, ◌&&◌, not}
 use Rattle.std.specs.Str.{IsUtf8, bytes_eq}
 use Rattle.folders.specs.Names.{IsPrintable}
 use Rattle.folders.specs.ReadFiles.{bytes_read, name_read}
@@ -104,9 +104,11 @@ module _ (edition : ℕ) (digest : List ℕ) (unit : UnitEntry) where
 -- Which imports count
 
 -- An import counts that means the package of just that path: one that go takes from a folder `vendor` has another path,
--- by which no package is imported. And a package that has a fault as a whole counts only inside its own module. Of any
--- other import it is as if nothing were known.
+-- by which no package is imported. And by the first edition a package that has a fault as a whole counts only inside
+-- its own module. Of any other import it is as if nothing were known. (By the second edition a package with such a
+-- fault is passed over where its importers are judged, in every module.)
 abbrev pub counts_in : List ℕ → ToldImport → Bool
 counts_in module_path told =
     bytes_eq told.import.now (string_bytes told.kept.path)
-    && not (told.kept.has_whole_fault && not (bytes_eq (string_bytes told.kept.module_path) module_path))
+    && not ((told.kept.has_whole_fault && told.kept.edition == 1)
+    && not (bytes_eq (string_bytes told.kept.module_path) module_path))

@@ -1,3 +1,4 @@
+pub mod CountedPackages
 pub mod FaultyPackages
 pub mod ImportedPaths
 mod KeptPackages

@@ -8,6 +8,7 @@ mod import_entries;
 mod imported;
 mod loaded_package;
 mod numbered;
+mod readings;
 mod whole;
 
 pub use dot_entries::add_dots;
@@ -15,4 +16,5 @@ pub use import_entries::{Marked, Picks, add_imports};
 pub use imported::import_lists;
 pub use loaded_package::{LoadedPackage, Reading};
 pub use numbered::{NumberedTree, numbered_trees};
+pub use readings::are_trees;
 pub use whole::{Second, has_whole_fault, unranked, whole_faults};

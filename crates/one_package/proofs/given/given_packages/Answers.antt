@@ -6,6 +6,7 @@ use Rattle.imports.specs.Views.{at_path, packages_view, rank_of, ranked_of}
 use Rattle.meaning_reports.specs.Loaded.{import_list}
 use Rattle.whole_packages.specs.WholeEntries.{is_faulty, is_marked}
 use Rattle.one_package.specs.Judgments.{IsFaulty}
+use Rattle.one_package.proofs.CountedMarks.{counted_so}
 use Rattle.one_package.proofs.FaultyMarks.{faulty_so}
 use Rattle.one_package.proofs.GivenOrder.{order_so}
 use Rattle.one_package.proofs.given.given_packages.Goals as goal
@@ -33,6 +34,9 @@ returns-clause-given c = λ ps tell distinct.
       are_unranked = are_unranked;
       are_faulty = λ path. subst (λ marks. (is_marked places marks path ≡ true) ↔ IsFaulty ps path) (sym faulty)
           (faulty_so ps c.args.packages.now tell places unranked are_places are_unranked path);
+      are_counted = λ path j place.
+          ap (λ marks. is_marked places marks path) c.in_ok-counted.ensures
+          ∙ counted_so ps c.args.packages.now tell places are_places path j place;
       are_names = c.in_ok-names.ensures ps tell distinct;
       are_declared = c.in_ok-declared.ensures.tables;
       are_marked = c.in_ok-declared.ensures.marks;

@@ -5,5 +5,5 @@ use Rattle.one_package.proofs.told_neighbours.marks_of.Given as goal
 -- the marks so far, with those of what is left, are all
 abbrev pub invariant-loop-one : goal.invariant-loop-one
 invariant-loop-one l =
-    l.marks.items ++ map (λ (k : ImportedPackage). k.is_faulty) (drop l.one-index l.imported)
-    ≡ map (λ (k : ImportedPackage). k.is_faulty) l.imported
+    l.marks.items ++ map (λ (k : ImportedPackage). k.is_counted) (drop l.one-index l.imported)
+    ≡ map (λ (k : ImportedPackage). k.is_counted) l.imported

@@ -21,4 +21,4 @@ pub returns-clause-taken : goal.returns-clause-taken
 returns-clause-taken g c =
     let parts = report_is c.args.style c.args.packages.now in
     let after_put_all = goes_on _ _ _ _ _ _ _ parts (begins _ _) c.in_ok-put_all.ensures.taken in
-    last_call _ _ _ _ _ (goes_on _ _ _ _ _ _ _ refl after_put_all c.in_ok-write_packages.ensures.taken) _ c.put_each.ensures.taken
+    last_call _ _ _ _ _ (goes_on _ _ _ _ _ _ _ refl after_put_all c.in_ok-write_packages.ensures.taken) _ c.close_report.ensures.taken

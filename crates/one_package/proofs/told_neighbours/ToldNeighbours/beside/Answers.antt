@@ -7,11 +7,11 @@ use Rattle.one_package.proofs.told_neighbours.ToldNeighbours.beside.Goals as goa
 pub returns : goal.returns
 returns c = λ tables ps i p imported keeps is_p rank are declared marked.
     let others = value_of c.args.declared.now.packages in
-    let faulty = c.deref.ensures.value ∙ keeps.are_faulty in
+    let counted = c.deref.ensures.value ∙ keeps.are_counted in
     subst (TellsNearby tables ps p) (λ j. record {
       places = λ path. sym (keeps.are_places path) j;
       unranked = [];
-      faulty = sym faulty j;
+      counted = sym counted j;
       names = λ path. sym (keeps.are_names path) j;
       declared = others;
     }) (told_near ps i p is_p rank imported are tables others declared marked)

@@ -8,6 +8,6 @@ returns c = record {
   are_places = λ path.
       c.in_ok-places.ensures path
       ∙ ap (λ ls. place_from path ls 0) (ap packages_view c.deref.ensures.value ∙ c.in_ok-lists.ensures);
-  are_faulty = c.in_ok-faulty.ensures;
+  are_counted = c.in_ok-counted.ensures;
   are_names = c.in_ok-names.ensures;
 }

@@ -3,7 +3,7 @@ use Rattle.std.proofs.lemmas.Result.{err_from_is_err_and}
 use Rattle.report_formats.specs.SarifText.{rule_value}
 use Rattle.report_formats.proofs.Steps.{begins, goes_on, ends, stops}
 use Rattle.report_formats.proofs.Values.{next_listed, none_listed}
-use Rattle.report_formats.proofs.sarif.write_rules.Goals as goal
+use Rattle.report_formats.proofs.sarif_rules.write_rules.Goals as goal
 
 pub loop-code-init : goal.loop-code-init
 loop-code-init g c = (begins _ _, refl)

@@ -2,7 +2,7 @@ use Rattle.std.proofs.Common.{◌≡◌, false, map, drop}
 use Rattle.report_formats.specs.Pieces.{listed}
 use Rattle.report_formats.specs.SarifText.{rule_value}
 use Rattle.report_formats.proofs.Steps.{Goes}
-use Rattle.report_formats.proofs.sarif.write_rules.Given as goal
+use Rattle.report_formats.proofs.sarif_rules.write_rules.Given as goal
 
 abbrev pub invariant-loop-code : goal.invariant-loop-code
 invariant-loop-code g l =

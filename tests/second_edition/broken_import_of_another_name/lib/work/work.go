@@ -1,0 +1,7 @@
+package work
+
+import "context"
+
+func New(p context.Context) (context.Context, context.CancelFunc) {
+	return context.WithCancel(p)
+}

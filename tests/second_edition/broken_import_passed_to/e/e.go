@@ -1,0 +1,6 @@
+package e
+
+import _ "a"
+import "b"
+
+func f() { b.G() }
