@@ -13,7 +13,7 @@ use Rattle.meaning_reports.specs.Loaded.{LoadedPackage, import_list}
 use Rattle.meaning_reports.specs.PackageReports.{Rules}
 use Rattle.one_package.specs.Certified.{CertificateRule}
 use Rattle.all_packages.specs.Progress.{Slots, AreRight, WasJudged, IsReady, IsNext, AreRankedJudged, AreAllJudged}
-use Rattle.one_package.proofs.FirstJudged.{some_from}
+use Rattle.given_packages.proofs.ImportedNames.{some_from}
 
 -- Places in lists
 

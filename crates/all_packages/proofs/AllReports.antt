@@ -17,9 +17,9 @@ use Rattle.gathering.specs.Results.{IsNotGiven, AreOfAll, AreTablesOf, HaveTable
 use Rattle.gathering.proofs.Gathered.{results_say_the_tables_by}
 use Rattle.declared_tables.specs.DeclaredTables.{declared_view}
 use Rattle.imports.specs.Views.{at_path}
-use Rattle.one_package.specs.declared.given.Given.{Given}
+use Rattle.given_packages.specs.declared.given.Given.{Given}
 use Rattle.one_package.specs.declared.judged.Judged.{Judged}
-use Rattle.one_package.specs.Given.{TellsGiven}
+use Rattle.given_packages.specs.Given.{TellsGiven}
 use Rattle.one_package.specs.Certified.{CertificateRule}
 use Rattle.all_packages.specs.Reports.{AreAllCertified, AreReportsBy}
 use Rattle.all_packages.specs.Progress.{Slots, slot_at, judged_of, results_of, table_there, tables_of, AreRight, AreAllJudged}

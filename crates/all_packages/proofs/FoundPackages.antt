@@ -9,9 +9,9 @@ use Rattle.imports.specs.Views.{package_view, packages_view, rows_view}
 use Rattle.imports.specs.declared.import_list.ImportList.{ImportList}
 use Rattle.meaning_reports.proofs.ImportsOf.{list_item, in_lists}
 use Rattle.meaning_reports.specs.Loaded.{LoadedPackage, Tables, imported_paths}
-use Rattle.one_package.specs.declared.given.Given.{Given}
+use Rattle.given_packages.specs.declared.given.Given.{Given}
 use Rattle.all_packages.specs.Progress.{imports_at}
-use Rattle.one_package.specs.Given.{TellsGiven}
+use Rattle.given_packages.specs.Given.{TellsGiven}
 
 module _ (declared : Tables) (ps : List LoadedPackage) (given : Given) (tells : TellsGiven declared ps given) (i : ℕ) where
   -- the places of those that it imports

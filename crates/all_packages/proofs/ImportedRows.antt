@@ -17,7 +17,8 @@ use Rattle.one_package.specs.Judgments.{said_view}
 use Rattle.all_packages.specs.Progress.{Slots, slot_at, imports_at, AreRight, IsReady}
 use Rattle.one_package.specs.Results.{judged_at, said_at, results_by_path, AllMarked, AreImported}
 use Rattle.all_packages.proofs.KeptPackages.{kept_of}
-use Rattle.one_package.proofs.FirstJudged.{found_at, is_found, some_from}
+use Rattle.one_package.proofs.FirstJudged.{found_at, is_found}
+use Rattle.given_packages.proofs.ImportedNames.{some_from}
 
 -- it was judged, and is of a package that is imported
 record WasThere (ps : List LoadedPackage) (slots : Slots) (i : ℕ) (j : Judged) : Type 0 where

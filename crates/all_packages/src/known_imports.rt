@@ -8,7 +8,8 @@ ghost use Rattle.one_package.specs.Results.{KnowsImports, KnowsJudged};
 ghost use Rattle.one_package.specs.declared.judged.Judged.{Judged};
 
 use crate::progress::Progress;
-use one_package::{Given, KnownImports};
+use given_packages::Given;
+use one_package::KnownImports;
 use std::alloc::{AllocError, Global};
 
 /// Adds what is said of the package of that place, if it was judged.

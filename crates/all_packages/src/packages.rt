@@ -5,7 +5,7 @@ ghost use Rattle.all_packages.specs.Reports.{AreAllCertified, AreReportsBy};
 ghost use Rattle.one_package.specs.Certified.{CertificatesFollow};
 ghost use Rattle.one_package.specs.Judgments.{TellsSources, said_view};
 ghost use Rattle.all_packages.specs.Progress.{judged_in, slots_in, AreRight, AreRankedJudged, AreAllJudged, IsNext, IsReady};
-ghost use Rattle.one_package.specs.Given.{TellsGiven};
+ghost use Rattle.given_packages.specs.Given.{TellsGiven};
 ghost use Rattle.one_package.specs.Results.{results_by_path, AreImported};
 ghost use Rattle.one_package.specs.declared.judged.Judged.{Judged};
 ghost use Rattle.declared_tables.specs.DeclaredTables.{declared_tables};
@@ -19,8 +19,9 @@ ghost use Rattle.meaning_reports.specs.Loaded.{LoadedPackage as MeantPackage, Ta
 use crate::known_imports::known_imports;
 use crate::progress::Progress;
 use declared_json::DeclaredPackages;
+use given_packages::{Given, given_packages};
 use imports::ImportList;
-use one_package::{Alone, FileRules, Given, Hands, Judged, Judges, given_packages, judge_package};
+use one_package::{Alone, FileRules, Hands, Judged, Judges, judge_package};
 use std::alloc::{AllocError, Global};
 use whole_packages::LoadedPackage;
 

@@ -7,8 +7,8 @@ use Rattle.std.proofs.lemmas.List.{length-map}
 use Rattle.std.proofs.lemmas.Option.{slice_get_within}
 use Rattle.imports.specs.Views.{package_view}
 use Rattle.meaning_reports.specs.Loaded.{LoadedPackage, Tables, import_list}
-use Rattle.one_package.specs.Given.{TellsGiven}
-use Rattle.one_package.specs.declared.given.Given.{Given}
+use Rattle.given_packages.specs.Given.{TellsGiven}
+use Rattle.given_packages.specs.declared.given.Given.{Given}
 
 module _ (declared : Tables) (ps : List LoadedPackage) (given : Given) (i : ℕ) (p : LoadedPackage)
     (tells : TellsGiven declared ps given) (is_p : slice_get ps i ≡ Some p) where

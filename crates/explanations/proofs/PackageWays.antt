@@ -17,8 +17,8 @@ use Rattle.meaning.proofs.Membership.{contains_map}
 use Rattle.meaning_reports.specs.Loaded.{LoadedPackage, Tables}
 use Rattle.meaning_reports.specs.PackageReports.{AreFindingsBy, by_paths}
 use Rattle.meaning_reports.specs.WholeFaults.{HasNoWholeFault}
-use Rattle.one_package.specs.Given.{TellsGiven}
-use Rattle.one_package.specs.declared.given.Given.{Given}
+use Rattle.given_packages.specs.Given.{TellsGiven}
+use Rattle.given_packages.specs.declared.given.Given.{Given}
 use Rattle.one_package.specs.declared.judged.Judged.{Judged}
 use Rattle.path_faults.proofs.Places.{any_holds}
 use Rattle.report.specs.Entries.{entry_of}

@@ -15,13 +15,13 @@ use Rattle.meaning_reports.proofs.ImportsOf.{given_in_lists}
 use Rattle.meaning_reports.specs.Loaded.{LoadedPackage, Tables, import_list}
 use Rattle.one_package.proofs.FirstJudged.{found_at, is_found}
 use Rattle.one_package.proofs.ImportedTables.{tables_so}
-use Rattle.one_package.proofs.NearGiven.{near_given}
+use Rattle.given_packages.proofs.NearGiven.{near_given}
 use Rattle.one_package.proofs.ToldImports.{is_told, judged_are_told, was_judged}
-use Rattle.one_package.specs.Given.{TellsGiven}
+use Rattle.given_packages.specs.Given.{TellsGiven}
 use Rattle.one_package.specs.Judgments.{said_view, table_view}
-use Rattle.one_package.specs.Neighbours.{nearby_in}
+use Rattle.given_packages.specs.Neighbours.{nearby_in}
 use Rattle.one_package.specs.Results.{judged_at, told_by, AllMarked, AreTold, HaveTheirTables, KeptTold}
-use Rattle.one_package.specs.declared.given.Given.{Given}
+use Rattle.given_packages.specs.declared.given.Given.{Given}
 use Rattle.one_package.specs.declared.judged.Judged.{Judged}
 use Rattle.path_faults.proofs.Places.{element_at}
 use Rattle.whole_packages.specs.declared.loaded_package.LoadedPackage.{LoadedPackage as KeptPackage}

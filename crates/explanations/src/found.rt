@@ -7,7 +7,7 @@ ghost use Rattle.explanations.specs.PackageReasons.{ArePackageReasons};
 ghost use Rattle.explanations.specs.Right.{AreJudgedBy};
 ghost use Rattle.meaning_reports.specs.Loaded.{LoadedPackage as MeantPackage, Tables};
 ghost use Rattle.meaning_reports.specs.WholeFaults.{HasNoWholeFault};
-ghost use Rattle.one_package.specs.Given.{TellsGiven};
+ghost use Rattle.given_packages.specs.Given.{TellsGiven};
 ghost use Rattle.one_package.specs.Judgments.{TellsAround};
 ghost use Rattle.whole_packages.specs.LoadedViews.{HaveDistinctPaths, TellsPackage};
 

@@ -6,7 +6,8 @@ ghost use Rattle.imports.specs.Views.{text_views};
 ghost use Rattle.one_package.specs.Results.{KnowsImports, KnowsJudged};
 ghost use Rattle.one_package.specs.declared.judged.Judged.{Judged};
 
-use one_package::{Given, Judged, KnownImports};
+use given_packages::Given;
+use one_package::{Judged, KnownImports};
 use std::alloc::{AllocError, Global};
 
 /// Adds what is said of the package of that place, if there is one.

@@ -9,7 +9,7 @@ ghost use Rattle.explanations.specs.Plain.{judged_view, plain_view, report_view}
 ghost use Rattle.explanations.specs.Right.{AreJudgedBy};
 ghost use Rattle.meaning_reports.specs.Loaded.{LoadedPackage as MeantPackage, Tables};
 ghost use Rattle.meaning_reports.specs.PackageReports.{AreFindingsBy, by_paths};
-ghost use Rattle.one_package.specs.Given.{TellsGiven};
+ghost use Rattle.given_packages.specs.Given.{TellsGiven};
 ghost use Rattle.report.specs.Entries.{entry_of};
 ghost use Rattle.whole_packages.specs.LoadedViews.{HaveDistinctPaths, TellPackages};
 
@@ -17,7 +17,8 @@ use crate::explained::explained_report;
 use crate::found::package_reasons;
 use crate::notes::{AllJudged, Elsewhere};
 use declared_json::DeclaredPackages;
-use one_package::{Judged, given_packages};
+use given_packages::given_packages;
+use one_package::Judged;
 use report::{ExplainedPackage, PackageReport};
 use std::alloc::{AllocError, Global};
 use whole_packages::LoadedPackage;

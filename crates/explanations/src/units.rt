@@ -7,14 +7,15 @@ ghost use Rattle.gathering.specs.Results.{FollowsFromTold};
 ghost use Rattle.meaning_reports.specs.Loaded.{LoadedPackage as MeantPackage, Tables, imported_paths};
 ghost use Rattle.meaning_reports.specs.PackageReports.{by_paths};
 ghost use Rattle.one_package.specs.Judgments.{said_view};
-ghost use Rattle.one_package.specs.Neighbours.{nearby_view, TellsNearby};
+ghost use Rattle.given_packages.specs.Neighbours.{nearby_view, TellsNearby};
 ghost use Rattle.one_package.specs.Results.{tellings_by_path, AreTold, KnowsAll, ToldImports};
 ghost use Rattle.whole_packages.specs.LoadedViews.{TellsPackage};
 
 use crate::explained::explained_report;
 use crate::found::unit_reasons;
 use crate::notes::Elsewhere;
-use one_package::{Judged, KnownImports, Neighbours, around_beside};
+use given_packages::Neighbours;
+use one_package::{Judged, KnownImports, around_beside};
 use report::ExplainedPackage;
 use std::alloc::{AllocError, Global};
 use whole_packages::LoadedPackage;

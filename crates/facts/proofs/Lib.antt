@@ -1,6 +1,0 @@
-pub mod BorneOut
-pub mod Counted
-pub mod FactMaps
-pub mod FactParts
-pub mod Gathered
-pub mod ListedItems

@@ -12,12 +12,10 @@ use Rattle.facts.specs.declared.facts.TrackedParameter.{TrackedParameter as Kept
 use Rattle.facts.specs.declared.facts.CancelResult.{CancelResult as KeptResult}
 use Rattle.facts.specs.declared.facts.Unless.{Unless as KeptUnless}
 use Rattle.facts.specs.declared.facts.FunctionFacts.{FunctionFacts as KeptFacts}
-use Rattle.facts.specs.declared.in_file.InFile.{InFile}
 use Rattle.facts.specs.declared.table.Table.{Table}
 use Rattle.facts.specs.declared.table.Imported.{Imported}
 use Rattle.tree.specs.View.{identifier_syntax, expression_syntax, optional_expression_of}
-use Rattle.names.specs.Answers.{declared_at}
-use Rattle.meaning.specs.FunctionFacts.{Meanings, CancelType, plain, with_cause, TrackedType, cancel_type, group_type, VariableKind, cancel, group, Item, TrackedParameter, CancelResult, Unless, FunctionFacts}
+use Rattle.meaning.specs.FunctionFacts.{CancelType, plain, with_cause, TrackedType, cancel_type, group_type, VariableKind, cancel, group, Item, TrackedParameter, CancelResult, Unless, FunctionFacts}
 
 abbrev pub kind_view : KeptKind → VariableKind
 kind_view Cancel = cancel
@@ -54,10 +52,6 @@ facts_view f = record {
   results = f.results;
   unless = map unless_view f.unless.items;
 }
-
--- what the uses of the file mean
-abbrev pub meanings_of : InFile → Meanings
-meanings_of f = declared_at f.names.now f.file
 
 -- the facts of the function of that name
 abbrev pub facts_by_name : Table → List ℕ → Option FunctionFacts

@@ -1,3 +1,0 @@
--- What the contracts of this crate name: what it keeps, and what that stands for.
-pub mod FactViews
-pub mod Returned

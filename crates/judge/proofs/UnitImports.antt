@@ -24,11 +24,11 @@ use Rattle.meaning_reports.proofs.ImportsOf.{given_in_lists, in_lists, list_item
 use Rattle.meaning_reports.specs.Loaded.{LoadedPackage, Tables, import_list, imported_paths, package_names}
 use Rattle.meaning_reports.specs.PackageReports.{Rules, Said, by_paths}
 use Rattle.names.proofs.Adding.{or_else-assoc}
-use Rattle.one_package.proofs.ImportedNames.{import_path}
+use Rattle.given_packages.proofs.ImportedNames.{import_path}
 use Rattle.one_package.proofs.ToldImports.{map_else}
 use Rattle.one_package.specs.Judgments.{IsOfImport}
 use Rattle.one_package.specs.Results.{KeptTold, told_view, told_and, ToldImports, tellings_by_path, tables_told, told_at, AreTold, KnowsTold}
-use Rattle.one_package.specs.ToldNeighbours.{item_of, AreImportsOf, IsRightAbout}
+use Rattle.given_packages.specs.ToldNeighbours.{item_of, AreImportsOf, IsRightAbout}
 use Rattle.one_package.specs.declared.known_imports.KnownImports.{KnownImports}
 use Rattle.report.specs.declared.notes.ExplainedPackage.{ExplainedPackage}
 

@@ -28,8 +28,8 @@ use Rattle.meaning_reports.specs.PackageTables.{IsEmpty, IsTable, empty, full}
 use Rattle.meaning_reports.specs.WholeFaults.{HasNoWholeFault, IsWholeFault}
 use Rattle.tree.specs.declared.edition.Edition.{Edition}
 use Rattle.tree.specs.declared.edition.Edition.TheVariants.{First, Second}
-use Rattle.one_package.proofs.FirstJudged.{some_from}
-use Rattle.one_package.proofs.ImportedNames.{import_path}
+use Rattle.given_packages.proofs.ImportedNames.{some_from}
+use Rattle.given_packages.proofs.ImportedNames.{import_path}
 use Rattle.one_package.specs.Judgments.{says_nothing, table_view}
 use Rattle.report.specs.Entries.{Entry, entry_of}
 use Rattle.report.specs.declared.diagnostics.Diagnostic.{Diagnostic}

@@ -11,8 +11,8 @@ use Rattle.imports.specs.Views.{at_path}
 use Rattle.meaning_reports.proofs.ImportsOf.{given_in_lists, in_lists, names_first}
 use Rattle.meaning_reports.specs.Loaded.{LoadedPackage, Tables, import_list, imported_paths}
 use Rattle.meaning_reports.specs.WholeFaults.{IsWholeFault, has_no_tokens, has_no_tree, has_two_functions, has_no_rank}
-use Rattle.one_package.specs.Given.{TellsGiven}
-use Rattle.one_package.specs.declared.given.Given.{Given}
+use Rattle.given_packages.specs.Given.{TellsGiven}
+use Rattle.given_packages.specs.declared.given.Given.{Given}
 use Rattle.report.specs.Entries.{Entry}
 use Rattle.whole_packages.specs.LoadedViews.{HaveDistinctPaths, TellPackages, TellsPackage}
 use Rattle.whole_packages.specs.WholeEntries.{is_marked, is_set, is_set_at}

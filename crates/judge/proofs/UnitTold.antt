@@ -17,7 +17,7 @@ use Rattle.told_reports.specs.declared.unit.UnitForm.{UnitForm}
 use Rattle.meaning_reports.specs.Loaded.{LoadedPackage, Tables, import_list, imported_paths}
 use Rattle.meaning_reports.specs.PackageReports.{by_paths}
 use Rattle.one_package.specs.Judgments.{said_view}
-use Rattle.one_package.specs.declared.given.Given.{Given}
+use Rattle.given_packages.specs.declared.given.Given.{Given}
 use Rattle.whole_packages.specs.LoadedViews.{TellsPackage}
 use Rattle.whole_packages.specs.declared.loaded_package.LoadedPackage.{LoadedPackage as KeptPackage}
 

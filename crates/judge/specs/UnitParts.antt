@@ -20,14 +20,14 @@ use Rattle.judge.specs.Units.{IsJudgedByTold, IsUnitText, NotesFollowFromTold, c
 use Rattle.meaning.specs.OuterBlocks.{or_else}
 use Rattle.meaning_reports.specs.Loaded.{LoadedPackage, Tables, import_list, imported_paths}
 use Rattle.meaning_reports.specs.PackageReports.{by_paths}
-use Rattle.one_package.specs.Given.{TellsGiven}
+use Rattle.given_packages.specs.Given.{TellsGiven}
 use Rattle.one_package.specs.Judgments.{TellsSources, said_view}
-use Rattle.one_package.specs.Neighbours.{Nearby, TellsNearby}
+use Rattle.given_packages.specs.Neighbours.{Nearby, TellsNearby}
 use Rattle.one_package.specs.Results.{AreTold, KeptTold, KnowsAll, KnowsTold, ToldImports, tellings_by_path}
-use Rattle.one_package.specs.ToldNeighbours.{AreImportsOf}
-use Rattle.one_package.specs.declared.given.Given.{Given}
+use Rattle.given_packages.specs.ToldNeighbours.{AreImportsOf}
+use Rattle.given_packages.specs.declared.given.Given.{Given}
 use Rattle.one_package.specs.declared.known_imports.KnownImports.{KnownImports}
-use Rattle.one_package.specs.declared.told_neighbours.ImportedPackage.{ImportedPackage}
+use Rattle.given_packages.specs.declared.told_neighbours.ImportedPackage.{ImportedPackage}
 use Rattle.report.specs.declared.notes.ExplainedPackage.{ExplainedPackage}
 use Rattle.vetx_tables.specs.KeptTables.{table_again}
 use Rattle.whole_packages.specs.LoadedViews.{TellsPackage}

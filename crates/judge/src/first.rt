@@ -6,7 +6,7 @@ ghost use Rattle.meaning_reports.specs.Loaded.{LoadedPackage as MeantPackage};
 ghost use Rattle.whole_packages.specs.LoadedViews.{HaveDistinctPaths, TellPackages};
 
 use cause_mentions::first_kept;
-use one_package::names_of_packages;
+use given_packages::names_of_packages;
 use std::alloc::{AllocError, Global};
 use whole_packages::LoadedPackage;
 

@@ -8,7 +8,7 @@ ghost use Rattle.imports.specs.Views.{packages_view, text_views};
 ghost use Rattle.judge.specs.Units.{counts_so, name_if_any, name_or_empty, IsUnitFault, IsUnitReport};
 ghost use Rattle.judge.specs.UnitParts.{first_imports, is_named, named_among, package_in, told_by_read, IsGivenAlone, IsReadAs, IsReadOf, IsToldUnit, SaysByNear, SaysByRead};
 ghost use Rattle.meaning_reports.specs.Loaded.{name_in};
-ghost use Rattle.one_package.specs.Neighbours.{nearby_view};
+ghost use Rattle.given_packages.specs.Neighbours.{nearby_view};
 ghost use Rattle.one_package.specs.Results.{KnowsAll};
 ghost use Rattle.tree.specs.View.{file_syntax};
 ghost use Rattle.vetx_json.specs.KeptUnits.{vetx_of};
@@ -18,11 +18,9 @@ use accepting::{explained_package, plain_package};
 use declared_json::DeclaredPackages;
 use declared_tables::{DeclaredTables, PackageTable};
 use explanations::explain_unit;
+use given_packages::{Given, ImportedPackage, Neighbours, ToldNeighbours, given_packages};
 use imports::ImportList;
-use one_package::{
-    Alone, ByPaths, Given, ImportedPackage, Judged, Judges, KnownImports, Neighbours,
-    ToldNeighbours, given_packages, is_yes, judge_beside,
-};
+use one_package::{Alone, ByPaths, Judged, Judges, KnownImports, is_yes, judge_beside};
 use std::alloc::{AllocError, Global};
 use std::slice::from_ref;
 use told_reports::{UnitForm, unit_text};

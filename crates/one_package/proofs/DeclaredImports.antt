@@ -9,7 +9,7 @@ use Rattle.meaning.specs.OuterBlocks.{or_else}
 use Rattle.first_values.specs.ValuesByName.{only_at}
 use Rattle.names.proofs.Adding.{or_else-none}
 use Rattle.declared_tables.specs.declared.tables.PackageTable.{PackageTable as KeptTable}
-use Rattle.one_package.specs.Neighbours.{Nearby}
+use Rattle.given_packages.specs.Neighbours.{Nearby}
 use Rattle.one_package.specs.Results.{declared_among, declared_if, declared_outside}
 
 module _ (near : Nearby) where

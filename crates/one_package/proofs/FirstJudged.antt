@@ -10,10 +10,6 @@ use Rattle.names.proofs.Adding.{or_else-none, or_else-assoc}
 use Rattle.one_package.specs.declared.judged.Judged.{Judged}
 use Rattle.one_package.specs.Results.{judged_at}
 
-pub some_from : {A : Type 0} (o : Option A) → is_some o ≡ true → (a : A) × (o ≡ Some a)
-some_from None e = absurd (false≢true e)
-some_from (Some a) e = (a, refl)
-
 -- one more comes after these
 pub judged_more : (js : List Judged) (j : Judged) (path : List ℕ)
     → judged_at (js ++ j ∷ []) path ≡ or_else (judged_at js path) (only_at j.report.path.now j path)

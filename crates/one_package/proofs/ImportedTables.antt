@@ -25,10 +25,10 @@ use Rattle.files_to_walk.specs.Signs.{is_told, may_give, signs_by_path}
 use Rattle.files_to_walk.specs.declared.signs.Signs.{Signs}
 use Rattle.one_package.specs.declared.known_imports.KnownImports.{KnownImports}
 use Rattle.one_package.specs.Judgments.{KnownAround, IsOfImport}
-use Rattle.one_package.specs.Neighbours.{Nearby, TellsNearby}
+use Rattle.given_packages.specs.Neighbours.{Nearby, TellsNearby}
 use Rattle.one_package.specs.Results.{KeptTold, ToldImports, told_view, told_at, tellings_by_path, tables_told, declared_among, declared_outside, known_tables, signs_in, AreMarkedTables, AreTold, HaveTheirTables, KnowsAll}
 use Rattle.one_package.proofs.DeclaredImports.{among_is, is_outside, was_given}
-use Rattle.one_package.proofs.ImportedNames.{import_path}
+use Rattle.given_packages.proofs.ImportedNames.{import_path}
 
 path_any : (paths : List (List ℕ)) (path : List ℕ) → Contains paths path → list_any (λ q. bytes_eq q path) paths ≡ true
 path_any [] path h = absurd (contains_nil path h)

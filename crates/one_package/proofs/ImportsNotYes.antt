@@ -12,7 +12,7 @@ use Rattle.meaning_reports.specs.WholeFaults.{HasNoWholeFault}
 use Rattle.gathering.specs.Results.{HaveTold}
 use Rattle.one_package.specs.Judgments.{AreNotYes, IsOfImport}
 use Rattle.one_package.specs.Results.{KeptTold, ToldImports, told_view, told_at, tellings_by_path, not_yes_told, AreTold}
-use Rattle.one_package.proofs.FirstJudged.{some_from}
+use Rattle.given_packages.proofs.ImportedNames.{some_from}
 
 not_true : (b : Bool) → (not b ≡ true) ↔ (b ≡ false)
 not_true true = (λ e. absurd (false≢true e), λ e. absurd (false≢true (sym e)))

@@ -16,7 +16,7 @@ use Rattle.meaning_reports.specs.PackageReports.{Rules}
 use Rattle.meaning_reports.specs.UsedImports.{IsNeeded, in_first, is_used, IsUsed}
 use Rattle.one_package.specs.Judgments.{KnownAround, Surroundings, AreNotYes, ArePicked}
 use Rattle.one_package.specs.Needed.{is_needed}
-use Rattle.one_package.proofs.ImportedNames.{import_path}
+use Rattle.given_packages.proofs.ImportedNames.{import_path}
 
 -- what is imported has the place of its path
 placed : (ps : List LoadedPackage) (i j : ℕ) (q : LoadedPackage) → Imports (import_list ps) i j → slice_get ps j ≡ Some q

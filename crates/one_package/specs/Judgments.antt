@@ -58,20 +58,6 @@ is_yes report = says_nothing report.diagnostics.items
 
 -- What is known around a package
 
--- the path is that of a given package that has a fault as a whole
-pub record IsFaulty (ps : List LoadedPackage) (path : List ℕ) : Type 0 where
-  pub place : ℕ
-  pub entry : Entry
-  pub is_place : place_from path (import_list ps) 0 ≡ Some place
-  pub is_fault : IsWholeFault ps place entry
-
--- of the given packages that the package imports those are picked, by their paths, that count as given
-abbrev pub PicksCounted : List LoadedPackage → LoadedPackage → (List ℕ → Bool) → Type 0
-PicksCounted ps p picked = (path : List ℕ) (j : ℕ)
-    → Contains (imported_paths p) path
-    → place_from path (import_list ps) 0 ≡ Some j
-    → picked path ≡ counts (slice_get ps j)
-
 -- what is kept of the packages around one
 pub record Surroundings : Type 0 where
   pub names : List ℕ → Option (List ℕ)

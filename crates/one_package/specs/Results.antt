@@ -15,11 +15,11 @@ use Rattle.meaning_reports.specs.PackageReports.{Said}
 use Rattle.gathering.specs.Results.{Results, Told, Tellings}
 use Rattle.files_to_walk.specs.Signs.{signs_by_path}
 use Rattle.files_to_walk.specs.declared.signs.Signs.{Signs}
-use Rattle.one_package.specs.declared.given.Given.{Given}
+use Rattle.given_packages.specs.declared.given.Given.{Given}
 use Rattle.one_package.specs.declared.judged.Judged.{Judged}
 use Rattle.one_package.specs.declared.known_imports.KnownImports.{KnownImports}
 use Rattle.one_package.specs.Judgments.{table_view, mark_by_path, IsOfImport, is_yes, said_view}
-use Rattle.one_package.specs.Neighbours.{Nearby, nearby_in}
+use Rattle.given_packages.specs.Neighbours.{Nearby, nearby_in}
 
 -- What is told of packages
 

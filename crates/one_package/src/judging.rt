@@ -4,19 +4,18 @@ ghost use Rattle.std.specs.Prelude.{◌≡◌, ℕ, List, IfOk, Some, slice_get}
 ghost use Rattle.gathering.specs.Results.{FollowsFrom, FollowsFromTold};
 ghost use Rattle.meaning_reports.specs.Loaded.{LoadedPackage as MeantPackage, Tables, imported_paths};
 ghost use Rattle.one_package.specs.Certified.{CertificatesFollow, CertificatesFollowTold};
-ghost use Rattle.one_package.specs.Given.{TellsGiven};
+ghost use Rattle.given_packages.specs.Given.{TellsGiven};
 ghost use Rattle.one_package.specs.Judgments.{said_view, TellsAround, TellsSources};
-ghost use Rattle.one_package.specs.Neighbours.{nearby_in, nearby_view, TellsNearby};
+ghost use Rattle.given_packages.specs.Neighbours.{nearby_in, nearby_view, TellsNearby};
 ghost use Rattle.one_package.specs.Results.{results_by_path, tables_told, tellings_by_path, AreImported, AreMarkedTables, AreTold, HaveTheirTables, KnowsAll, KnowsImports, ToldImports};
 ghost use Rattle.one_package.specs.declared.judged.Judged.{Judged};
 ghost use Rattle.whole_packages.specs.LoadedViews.{TellsPackage};
 
 use crate::file_rules::{FileRules, Judges};
-use crate::given::Given;
 use crate::hands::Hands;
 use crate::judged::{Around, Judged, judge};
 use crate::known_imports::KnownImports;
-use crate::nearby::Neighbours;
+use given_packages::{Given, Neighbours};
 use std::alloc::Global;
 use whole_packages::{LoadedPackage, Marked};
 

@@ -8,19 +8,18 @@ ghost use Rattle.first_values.specs.ValuesByName.{only_at};
 ghost use Rattle.imports.specs.Views.{text_views};
 ghost use Rattle.meaning.specs.OuterBlocks.{or_else};
 ghost use Rattle.one_package.specs.Judgments.{is_picked, mark_by_path};
-ghost use Rattle.one_package.specs.Neighbours.{nearby_view};
+ghost use Rattle.given_packages.specs.Neighbours.{nearby_view};
 ghost use Rattle.one_package.specs.Results.{declared_among, declared_if, signs_in, told_and, KnowsAll, KnowsImports, KnowsJudged, KnowsTold, ToldImports};
 ghost use Rattle.one_package.specs.declared.judged.Judged.{Judged};
 
-use crate::given::Given;
 use crate::judged::Judged;
-use crate::nearby::Neighbours;
 use crate::verdicts::is_yes;
 use called_parameters::ImportedCalls;
 use declared_tables::PackageTable;
 use facts::Imported;
 use files_to_walk::{KnownSigns, Signs};
 use first_values::FirstValues;
+use given_packages::{Given, Neighbours};
 use std::alloc::{AllocError, Global};
 
 /// The packages that are not yes, among those that were judged.

@@ -12,11 +12,11 @@ use Rattle.meaning_reports.specs.OneReport.{AreDetermined}
 use Rattle.meaning_reports.specs.PackageReports.{Rules}
 use Rattle.gathering.specs.Results.{FollowsFrom}
 use Rattle.gathering.proofs.Results.{have_results, what_follows_is_a_result_by}
-use Rattle.one_package.specs.declared.given.Given.{Given}
+use Rattle.given_packages.specs.declared.given.Given.{Given}
 use Rattle.one_package.specs.declared.judged.Judged.{Judged}
 use Rattle.one_package.specs.declared.known_imports.KnownImports.{KnownImports}
 use Rattle.one_package.specs.Certified.{CertificateRule, CertificatesFollow}
-use Rattle.one_package.specs.Given.{TellsGiven}
+use Rattle.given_packages.specs.Given.{TellsGiven}
 use Rattle.one_package.specs.Judgments.{TellsSources, said_view}
 use Rattle.one_package.specs.Results.{results_by_path, AreImported, KnowsImports}
 use Rattle.all_packages.proofs.FoundPackages.{list_so}

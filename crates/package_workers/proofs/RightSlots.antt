@@ -11,10 +11,10 @@ use Rattle.meaning_reports.proofs.ImportsOf.{list_item}
 use Rattle.meaning_reports.specs.Loaded.{LoadedPackage, Tables}
 use Rattle.meaning_reports.specs.PackageReports.{Rules, Said}
 use Rattle.gathering.specs.Results.{IsResult}
-use Rattle.one_package.specs.declared.given.Given.{Given}
+use Rattle.given_packages.specs.declared.given.Given.{Given}
 use Rattle.one_package.specs.declared.judged.Judged.{Judged}
 use Rattle.one_package.specs.Certified.{CertificateRule}
-use Rattle.one_package.specs.Given.{TellsGiven}
+use Rattle.given_packages.specs.Given.{TellsGiven}
 use Rattle.all_packages.specs.Progress.{Slots, slot_at, AreRight}
 use Rattle.one_package.specs.Judgments.{said_view}
 use Rattle.package_workers.specs.Results.{IsRight, IsNamed}

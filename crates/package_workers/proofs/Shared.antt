@@ -16,7 +16,7 @@ use Rattle.declared_tables.proofs.tables.DeclaredTables.TheSendSync as tables
 use Rattle.declared_json.proofs.outside.DeclaredPackages.TheSendSync as outside
 use Rattle.workers.proofs.count.Workers.TheSendSync as count
 use Rattle.whole_packages.specs.contracts.loaded_package.LoadedPackage as loaded
-use Rattle.one_package.specs.contracts.given.Given as given
+use Rattle.given_packages.specs.contracts.given.Given as given
 use Rattle.package_workers.specs.contracts.checking.Shared as shared
 use Rattle.package_workers.specs.contracts.judging.Judging as judging
 use Rattle.package_workers.specs.declared.naming.Naming.{Ghosts}

@@ -9,11 +9,11 @@ use Rattle.whole_packages.specs.LoadedViews.{HaveDistinctPaths, TellPackages}
 use Rattle.meaning_reports.specs.Loaded.{LoadedPackage, Tables}
 use Rattle.meaning_reports.specs.PackageReports.{Rules}
 use Rattle.gathering.specs.Results.{IsResult}
-use Rattle.one_package.specs.declared.given.Given.{Given}
+use Rattle.given_packages.specs.declared.given.Given.{Given}
 use Rattle.one_package.specs.declared.judged.Judged.{Judged}
 use Rattle.one_package.specs.Certified.{CertificateRule, AreCertified}
 use Rattle.one_package.specs.Judgments.{TellsSources}
-use Rattle.one_package.specs.Given.{TellsGiven}
+use Rattle.given_packages.specs.Given.{TellsGiven}
 use Rattle.one_package.specs.Judgments.{said_view}
 
 -- Of one package

@@ -3,7 +3,7 @@ use Rattle.imports.specs.Ranks.{IsOrder}
 use Rattle.whole_packages.specs.LoadedViews.{HaveDistinctPaths}
 use Rattle.meaning_reports.specs.Loaded.{LoadedPackage, Tables, import_list}
 use Rattle.all_packages.specs.Progress.{slots_in, AreRight}
-use Rattle.one_package.specs.Given.{TellsGiven}
+use Rattle.given_packages.specs.Given.{TellsGiven}
 use Rattle.all_packages.proofs.AllPackages.{GoOn}
 use Rattle.all_packages.proofs.packages.judge_ranked.Given as goal
 

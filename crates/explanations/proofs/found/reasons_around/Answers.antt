@@ -3,7 +3,7 @@ use Rattle.std.proofs.lemmas.Result.{IfOk-weaker}
 use Rattle.meaning.specs.Declarations.{declaration_of_use}
 use Rattle.meaning_reports.specs.Loaded.{means_in}
 use Rattle.names.specs.Answers.{declared_at, names_by_path}
-use Rattle.one_package.proofs.ImportedNames.{means_so}
+use Rattle.given_packages.proofs.ImportedNames.{means_so}
 use Rattle.tree.specs.View.{file_syntax}
 use Rattle.explanations.proofs.found.reasons_around.Goals as goal
 

@@ -3,7 +3,7 @@ use Rattle.std.proofs.lemmas.Result.{IfOk-weaker}
 use Rattle.explanations.specs.PackageReasons.{ArePackageReasons}
 use Rattle.meaning_reports.specs.PackageReports.{by_paths}
 use Rattle.one_package.proofs.ImportedTables.{tables_by_told}
-use Rattle.one_package.specs.Neighbours.{nearby_view}
+use Rattle.given_packages.specs.Neighbours.{nearby_view}
 use Rattle.explanations.proofs.units.explain_unit.Goals as goal
 
 pub returns-clause-notes : goal.returns-clause-notes

@@ -4,9 +4,9 @@ use Rattle.imports.specs.Views.{text_views}
 use Rattle.judge.proofs.UnitTexts.{text_too}
 use Rattle.judge.specs.UnitParts.{IsNearAmong, IsReadAmong, NotesByNear, NotesByRead, package_in, told_by_read}
 use Rattle.meaning_reports.specs.Loaded.{LoadedPackage, Tables}
-use Rattle.one_package.specs.Neighbours.{nearby_view}
+use Rattle.given_packages.specs.Neighbours.{nearby_view}
 use Rattle.one_package.specs.Results.{KnowsAll}
-use Rattle.one_package.specs.ToldNeighbours.{KeepsImported}
+use Rattle.given_packages.specs.ToldNeighbours.{KeepsImported}
 use Rattle.judge.proofs.units.judge_by_read.Goals as goal
 
 pub returns : goal.returns

@@ -2,7 +2,7 @@ use Rattle.std.proofs.Common.{◌≡◌, true, false, sym, ap, ◌∙◌, subst}
 use Rattle.accepting.specs.Findings.{explained_package, plain_package}
 use Rattle.judge.specs.UnitParts.{NotesByNear}
 use Rattle.judge.specs.Units.{HoldsOfUnit, HoldsExplained}
-use Rattle.one_package.specs.Neighbours.{nearby_view}
+use Rattle.given_packages.specs.Neighbours.{nearby_view}
 use Rattle.told_reports.specs.UnitTexts.{unit_text_in}
 use Rattle.judge.proofs.units.judge_near.Goals as goal
 

@@ -2,7 +2,7 @@ use Rattle.std.proofs.Common.{ap, map, sym, ◌∙◌, arith}
 use Rattle.meaning.specs.Declarations.{declaration_of_use}
 use Rattle.names.specs.Answers.{names_by_path}
 use Rattle.tree.specs.View.{file_syntax}
-use Rattle.one_package.proofs.ImportedNames.{means_so}
+use Rattle.given_packages.proofs.ImportedNames.{means_so}
 use Rattle.one_package.proofs.WholeOnly.{some_entry, none_whole, not_empty, is_empty}
 use Rattle.report.specs.Entries.{entry_of}
 use Rattle.one_package.proofs.grounds.named_grounds.Goals as goal

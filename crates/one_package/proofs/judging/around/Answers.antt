@@ -1,8 +1,8 @@
 use Rattle.std.proofs.Common.{sym, subst}
 use Rattle.meaning_reports.specs.Loaded.{imported_paths}
-use Rattle.one_package.specs.Neighbours.{TellsNearby}
+use Rattle.given_packages.specs.Neighbours.{TellsNearby}
 use Rattle.one_package.specs.Results.{HaveTheirTables, KnowsAll}
-use Rattle.one_package.proofs.NearGiven.{near_given}
+use Rattle.given_packages.proofs.NearGiven.{near_given}
 use Rattle.one_package.proofs.judging.around.Goals as goal
 
 pub returns-clause-known : goal.returns-clause-known

@@ -1,4 +1,4 @@
-use Rattle.one_package.specs.Neighbours.{nearby_view}
+use Rattle.given_packages.specs.Neighbours.{nearby_view}
 use Rattle.one_package.proofs.ImportedTables.{around_so}
 use Rattle.one_package.proofs.judging.around_beside.Goals as goal
 

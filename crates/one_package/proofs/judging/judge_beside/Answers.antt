@@ -2,7 +2,7 @@ use Rattle.std.proofs.Common.{ap, sym, subst}
 use Rattle.std.proofs.lemmas.Result.{IfOk-weaker}
 use Rattle.whole_packages.specs.WholeEntries.{is_set}
 use Rattle.one_package.specs.Judgments.{is_picked, AreNotYes}
-use Rattle.one_package.specs.Neighbours.{nearby_view}
+use Rattle.given_packages.specs.Neighbours.{nearby_view}
 use Rattle.one_package.proofs.FollowsSo.{if_both, said_so}
 use Rattle.one_package.proofs.ImportedTables.{tables_by_told}
 use Rattle.one_package.proofs.ImportsNotYes.{not_yes_so}

@@ -4,9 +4,9 @@ use Rattle.gathering.specs.Results.{FollowsFromTold}
 use Rattle.meaning_reports.specs.Loaded.{imported_paths}
 use Rattle.one_package.specs.Certified.{CertificatesFollowTold}
 use Rattle.one_package.specs.Judgments.{said_view}
-use Rattle.one_package.specs.Neighbours.{TellsNearby}
+use Rattle.given_packages.specs.Neighbours.{TellsNearby}
 use Rattle.one_package.specs.Results.{told_by, KnowsAll}
-use Rattle.one_package.proofs.NearGiven.{near_given}
+use Rattle.given_packages.proofs.NearGiven.{near_given}
 use Rattle.one_package.proofs.ToldImports.{judged_are_told, same_tellings}
 use Rattle.one_package.proofs.judging.judge_package.Goals as goal
 

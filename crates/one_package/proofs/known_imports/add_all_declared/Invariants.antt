@@ -4,7 +4,7 @@ use Rattle.facts.specs.FactViews.{table_by_path}
 use Rattle.imports.specs.Views.{text_views}
 use Rattle.meaning.specs.OuterBlocks.{or_else}
 use Rattle.files_to_walk.specs.Signs.{signs_by_path}
-use Rattle.one_package.specs.Neighbours.{nearby_view}
+use Rattle.given_packages.specs.Neighbours.{nearby_view}
 use Rattle.one_package.specs.Results.{declared_among, signs_in}
 use Rattle.one_package.proofs.known_imports.add_all_declared.Given as goal
 

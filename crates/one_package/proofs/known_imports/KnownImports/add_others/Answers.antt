@@ -1,7 +1,7 @@
 use Rattle.std.proofs.Common.{sym, ap, ◌∙◌, option_map}
 use Rattle.imports.specs.Views.{text_views}
 use Rattle.meaning.specs.OuterBlocks.{or_else}
-use Rattle.one_package.specs.Neighbours.{nearby_view}
+use Rattle.given_packages.specs.Neighbours.{nearby_view}
 use Rattle.one_package.specs.Results.{declared_among, signs_in, tables_told}
 use Rattle.one_package.proofs.ToldImports.{map_else}
 use Rattle.one_package.proofs.known_imports.KnownImports.add_others.Goals as goal
