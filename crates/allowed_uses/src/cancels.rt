@@ -14,11 +14,10 @@ use crate::gives::{body_gives, is_given_as};
 use crate::groups::only_argument;
 use crate::local_mention::{LocalMention, variable_at};
 use crate::places::{has_no_argument, is_call_place, is_deferred_place, is_statement_place, takes};
-use crate::universe::means_universe;
 use facts::{CancelType, TrackedType};
 use mentions::{Call, Role, is_body};
 use std::alloc::{AllocError, Global};
-use tracked_rows::{Event, Known, callee_of};
+use tracked_rows::{Event, Known, callee_of, means_universe};
 
 /// `()`, or `(e)` where the function takes a cause.
 pub fn has_its_arguments(cancel_type: CancelType, call: Call<'_, '_>) -> bool

@@ -10,7 +10,6 @@ mod groups;
 pub mod local_mention;
 mod places;
 mod reads;
-mod universe;
 
 pub use allowed_use::{Use, allowed_if};
 pub use between::{are_all_deferred, are_all_members};
@@ -25,4 +24,3 @@ pub use places::{
     is_statement_place, is_value_place, takes,
 };
 pub use reads::cancel_use_by;
-pub use universe::means_universe;

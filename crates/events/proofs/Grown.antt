@@ -4,7 +4,8 @@ use Rattle.std.specs.Prelude.{◌==◌}
 use Rattle.std.specs.List.{list_any}
 use Rattle.std.proofs.lemmas.List.{map-append, append-nil}
 use Rattle.uses.specs.declared.faults.UseFault.{UseFault as KeptFault}
-use Rattle.uses.specs.OutcomeViews.{fault_view, events_view}
+use Rattle.uses.specs.OutcomeViews.{fault_view}
+use Rattle.tracked_rows.specs.EventViews.{events_view}
 use Rattle.meaning.specs.Uses.{Event, UseFault, is_body}
 use Rattle.meaning.specs.Mentions.{BodyPlace, Mention, Mark, mentions}
 use Rattle.meaning.specs.Tracked.{Known}

@@ -11,7 +11,8 @@ ghost use Rattle.meaning.specs.BodyEvents.{is_panic, is_site};
 ghost use Rattle.meaning.specs.Uses.{call, is_body};
 ghost use Rattle.mentions.specs.MarkViews.{body_view, mark_view, mention_view, role_view};
 ghost use Rattle.tracked_rows.specs.RowViews.{known_view};
-ghost use Rattle.uses.specs.OutcomeViews.{fault_view, AddsFaults, error_calls, events_view};
+ghost use Rattle.uses.specs.OutcomeViews.{fault_view, AddsFaults, error_calls};
+ghost use Rattle.tracked_rows.specs.EventViews.{events_view};
 
 use crate::by_variables::{SeenBodies, add_by_variables};
 use kept_events::{FileKept, add_mark_events, add_names};

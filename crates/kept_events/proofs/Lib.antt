@@ -1,3 +1,4 @@
 pub mod FirstGiven
+pub mod HandedLocals
 pub mod KeptParts
 pub mod NoKeeping

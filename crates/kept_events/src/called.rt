@@ -7,7 +7,7 @@ ghost use Rattle.meaning.specs.Kept.{field_call, field_calls, has_arguments_of};
 ghost use Rattle.meaning.specs.Uses.{found};
 ghost use Rattle.mentions.specs.MarkViews.{body_view, call_view, mention_view};
 ghost use Rattle.tracked.specs.LocalViews.{seen_view, Sees};
-ghost use Rattle.uses.specs.OutcomeViews.{events_view};
+ghost use Rattle.tracked_rows.specs.EventViews.{events_view};
 
 use crate::here::{Here, add_event, kept_there};
 use allowed_uses::{has_its_arguments, is_deferred_place, is_statement_place};

@@ -8,7 +8,7 @@ ghost use Rattle.meaning.specs.Tracked.{declared_by};
 ghost use Rattle.mentions.specs.MarkViews.{body_view, mark_view, mention_view};
 ghost use Rattle.tracked.specs.LocalViews.{object_kind_view, seen_view};
 ghost use Rattle.tracked_rows.specs.RowViews.{known_view};
-ghost use Rattle.uses.specs.OutcomeViews.{events_view};
+ghost use Rattle.tracked_rows.specs.EventViews.{events_view};
 
 use crate::here::{Here, add_event, kept_there};
 use kept::{Keep, keeps_there};

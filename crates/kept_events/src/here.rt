@@ -6,7 +6,7 @@ ghost use Rattle.kept_events.specs.KeptEventViews.{AddsEvents, KnowsHere};
 ghost use Rattle.meaning.specs.Kept.{kept_there};
 ghost use Rattle.mentions.specs.MarkViews.{body_view};
 ghost use Rattle.tracked.specs.LocalViews.{seen_view};
-ghost use Rattle.uses.specs.OutcomeViews.{events_view};
+ghost use Rattle.tracked_rows.specs.EventViews.{events_view};
 
 use kept::{Around, Keep, Kept};
 use std::alloc::AllocError;

@@ -7,7 +7,7 @@ ghost use Rattle.meaning.specs.Kept.{field_events};
 ghost use Rattle.meaning.specs.Mentions.{of_fields, writes_field};
 ghost use Rattle.mentions.specs.MarkViews.{assigned_view, body_view, field_left_view};
 ghost use Rattle.tracked.specs.LocalViews.{seen_view, Sees};
-ghost use Rattle.uses.specs.OutcomeViews.{events_view};
+ghost use Rattle.tracked_rows.specs.EventViews.{events_view};
 
 use crate::declared::add_kept;
 use crate::here::{Here, add_event};
@@ -15,8 +15,7 @@ use kept::{Keep, stored_there};
 use mentions::mark::{Assigned, FieldLeft};
 use std::alloc::{AllocError, Global};
 use tracked::{Seen, row_binds};
-use tracked_rows::{Event, VariableAt, object_left, row_obtains};
-use uses::called_in;
+use tracked_rows::{Event, VariableAt, called_in, object_left, row_obtains};
 
 /// A left side that is a field, and its row.
 #[derive(Clone, Copy)]

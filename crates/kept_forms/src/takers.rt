@@ -5,9 +5,8 @@ ghost use Rattle.meaning.specs.Kept.{is_taken_by, takes_it};
 ghost use Rattle.mentions.specs.MarkViews.{named_view, taker_view};
 ghost use Rattle.tracked_rows.specs.RowViews.{known_view};
 
-use allowed_uses::means_universe;
 use mentions::{Named, Taker};
-use tracked_rows::{Known, may_be_field};
+use tracked_rows::{Known, may_be_field, means_universe};
 
 /// Whether a function of that name takes what it is given: Go's own functions keep nothing, but for `append`.
 fn is_taken_by(known: Known<'_, '_>, named: Named<'_>) -> bool

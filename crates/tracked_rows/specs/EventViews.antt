@@ -1,5 +1,5 @@
 -- What the program keeps of events, and what it stands for.
-use Rattle.std.specs.Prelude.{option_map, map}
+use Rattle.std.specs.Prelude.{List, [], ◌∷◌, Option, Some, None, option_map, map}
 use Rattle.tracked_rows.specs.declared.event.Callee.{Callee as KeptCallee}
 use Rattle.tracked_rows.specs.declared.event.Handed.{Handed as KeptHanded}
 use Rattle.tracked_rows.specs.declared.event.VariableAt.{VariableAt as KeptVariable}
@@ -39,3 +39,7 @@ event_view (DeferWait v) = defer_wait v
 event_view (Make v state) = make (variable_view v) (state_view state)
 event_view (DeferLiteral at) = defer_literal at
 event_view (Return handed) = return_event (map handed_view handed.items)
+
+abbrev pub events_view : Option KeptEvent → List Event
+events_view None = []
+events_view (Some e) = event_view e ∷ []

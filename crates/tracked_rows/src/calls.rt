@@ -4,11 +4,14 @@ ghost use Rattle.std.specs.Prelude.{◌≡◌, option_map};
 ghost use Rattle.std.specs.List.{list_any};
 ghost use Rattle.std.specs.Str.{bytes_eq};
 ghost use Rattle.meaning.specs.Tracked.{plain_makers, is_maker, facts_giving, maker_giving, giving_of, call_in, only_call, row_giving};
+ghost use Rattle.meaning.specs.Uses.{called_in};
 ghost use Rattle.facts.specs.FactViews.{facts_view, type_view};
 ghost use Rattle.mentions.specs.MarkViews.{named_view, call_view, row_view};
+ghost use Rattle.tracked_rows.specs.EventViews.{callee_view};
 ghost use Rattle.tracked_rows.specs.RowViews.{known_view, maker_type, imported_giving, giving_view, only_value_of};
 ghost use Rattle.tree.specs.View.{expression_syntax, expressions_syntax};
 
+use crate::event::{Callee, callee_of};
 use crate::known::{Known, meaning};
 use crate::lefts::{count, may_bind};
 use facts::{CancelResult, CancelType, FunctionFacts, is_import};
@@ -150,6 +153,20 @@ pub fn only_call<'m, 'a>(row: &'m Row<'a>) -> Option<Call<'m, 'a>>
     match only(row.values) {
         Some(value) => call_in(row, value),
         None => None,
+    }
+}
+
+/// The function that is called as the only value of the row.
+pub fn called_in<'a>(known: Known<'_, 'a>, row: Row<'a>) -> Callee<'a>
+    ensures { callee_view result ≡ called_in (known_view known.entry) (only_call (row_view row.entry)
+        (row_view row.entry).values) }
+{
+    match only_call(&row) {
+        Some(call) => callee_of(known, call.callee),
+        None => Callee {
+            path: None,
+            name: "",
+        },
     }
 }
 

@@ -10,8 +10,9 @@ pub mod fields;
 pub mod known;
 pub mod lefts;
 pub mod makings;
+mod universe;
 
-pub use calls::{Giving, giving_of, is_maker, only, only_call, row_giving};
+pub use calls::{Giving, called_in, giving_of, is_maker, only, only_call, row_giving};
 pub use event::{Callee, Event, Handed, VariableAt, callee_of, last_name};
 pub use fields::{Fields, ObjectLeft, PlacedLeft, has_field, may_be_field, some_keep};
 pub use known::{Known, facts_of, is_named, is_of_universe, local_meant, meaning, object_left};
@@ -20,3 +21,4 @@ pub use lefts::{
     own_variable,
 };
 pub use makings::{GroupState, are_locals, is_given, row_clears, row_makes, row_obtains};
+pub use universe::means_universe;

@@ -1,11 +1,10 @@
 -- What a mention of a local gives, by what the marks of its file do to the local.
-use Rattle.std.proofs.Common.{◌≡◌, ℕ, List, [], Option, Some, None, option_map, refl, ap, ◌∙◌}
+use Rattle.std.proofs.Common.{◌≡◌, List, Option, Some, None, option_map, refl, ap, ◌∙◌}
 use Rattle.tracked.specs.LocalViews.{SeenLocal, entry_of, tracked_kind_of_entry}
 use Rattle.uses.specs.OutcomeViews.{binding_outcome_of, mention_outcome_of, row_outcome_of, role_outcome_of}
-use Rattle.meaning.specs.FunctionFacts.{VariableKind, CancelResult}
+use Rattle.meaning.specs.FunctionFacts.{VariableKind}
 use Rattle.meaning.specs.Mentions.{BodyPlace, Row, Role, elsewhere, as_key, exposed, pointed_to, found_nil, found_error, called, called_in_brackets, argument, returned, left, names_type, new_literal, parameter_pointer, Mention}
 use Rattle.meaning.specs.Tracked.{LocalRole, parameter, receiver, variadic, result, in_block, Local}
-use Rattle.meaning.specs.BodyEvents.{handed_at, handed_there}
 use Rattle.meaning.specs.Uses.{Seen, Binding, tracked_kind, kind_of, binding_at, binding_outcome, mention_outcome, row_outcome, role_outcome, local_outcome}
 
 module _ (s : Seen) (l : Local) (bs : List BodyPlace) (m : Mention) where
@@ -50,21 +49,6 @@ entry_same s bs m e None is = absurd cc
 entry_same s bs m e (Some l) is =
     let same : e ≡ entry_of s l = cc in
     ap (λ x. role_outcome_of s x bs m m.role) same ∙ role_same s l bs m m.role
-
--- what a return hands on of a local that an item names
-
-pub handed_same : (s : Seen) (k : ℕ) (gives : List CancelResult) (e : SeenLocal) (o : Option Local)
-    → Some e ≡ option_map (entry_of s) o
-    → handed_at s k gives (tracked_kind_of_entry e) e.local ≡ handed_there s k gives o
-handed_same s k gives e None is = absurd cc
-handed_same s k gives e (Some l) is =
-    let same : e ≡ entry_of s l = cc in
-    ap (λ (x : SeenLocal). handed_at s k gives (tracked_kind_of_entry x) x.local) same
-
-pub handed_nothing : (s : Seen) (k : ℕ) (gives : List CancelResult) (o : Option Local)
-    → None ≡ option_map (entry_of s) o → [] ≡ handed_there s k gives o
-handed_nothing s k gives None is = refl
-handed_nothing s k gives (Some l) is = absurd cc
 
 -- as what the local is tracked
 pub tracked_same : (s : Seen) (e : SeenLocal) (o : Option Local) → Some e ≡ option_map (entry_of s) o

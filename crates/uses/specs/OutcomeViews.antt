@@ -7,7 +7,7 @@ use Rattle.uses.specs.declared.faults.UseFault.{UseFault as KeptFault}
 use Rattle.uses.specs.declared.bindings.Binding.{Binding as KeptBinding}
 use Rattle.uses.specs.declared.bindings.Binding.TheVariants.{Obtained, Cleared, Made}
 use Rattle.tracked_rows.specs.declared.event.Event.{Event as KeptEvent}
-use Rattle.tracked_rows.specs.EventViews.{event_view}
+use Rattle.tracked_rows.specs.EventViews.{events_view}
 use Rattle.tracked.specs.LocalViews.{SeenLocal, kind_of_entry, tracked_kind_of_entry}
 use Rattle.tracked_rows.specs.RowViews.{state_view}
 use Rattle.meaning.specs.FunctionFacts.{is_same_type, VariableKind}
@@ -32,10 +32,6 @@ abbrev pub binding_view : KeptBinding → Binding
 binding_view (Obtained k) = obtained k
 binding_view Cleared = cleared
 binding_view (Made state) = made (state_view state)
-
-abbrev pub events_view : Option KeptEvent → List Event
-events_view None = []
-events_view (Some e) = event_view e ∷ []
 
 abbrev pub AddsFaults : List KeptFault → List KeptFault → List UseFault → Type 0
 AddsFaults before after faults = map fault_view after ≡ map fault_view before ++ faults

@@ -20,5 +20,4 @@ pub use bindings::Binding;
 pub use faults::{UseCode, UseFault, add_fault};
 pub use losses::lost_at;
 pub use mark::mark_outcome;
-pub use outcomes::called_in;
 pub use recover::is_recover;

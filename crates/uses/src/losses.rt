@@ -12,12 +12,11 @@ ghost use Rattle.tree.specs.View.{expression_syntax};
 ghost use Rattle.uses.specs.OutcomeViews.{binding_view, error_calls, listed_number};
 
 use crate::bindings::{Binding, binding_at};
-use allowed_uses::means_universe;
 use facts::{FunctionFacts, Unless};
 use mentions::{Mark, Role, Row, RowForm};
 use std::alloc::{AllocError, Global};
 use tracked::{Seen, variable_of};
-use tracked_rows::{Known, count, facts_of, local_at, only_call};
+use tracked_rows::{Known, count, facts_of, local_at, means_universe, only_call};
 use tree::{Expr, ExprKind};
 
 fn unless_in(facts: Option<&FunctionFacts>) -> &[Unless]

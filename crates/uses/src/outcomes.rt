@@ -1,15 +1,14 @@
 //! What mentions of tracked variables give: faults, and at most one event.
 
 ghost use Rattle.std.specs.Prelude.{◌≡◌, OnOk, IfOk, map, ◌++◌};
-ghost use Rattle.tracked_rows.specs.EventViews.{event_view, callee_view};
+ghost use Rattle.tracked_rows.specs.EventViews.{event_view};
 ghost use Rattle.allowed_uses.specs.UseViews.{use_view};
 ghost use Rattle.facts.specs.FactViews.{kind_view};
 ghost use Rattle.tracked.specs.LocalViews.{local_view, local_role_view, entry_view, seen_view, Sees, tracked_kind_of_entry, kind_of_entry};
-ghost use Rattle.meaning.specs.Uses.{first_faults, type_faults, only_faults, binding_event, called_in, fault_at, otherwise, use_outcome, binding_at, variable_outcome};
+ghost use Rattle.meaning.specs.Uses.{first_faults, type_faults, only_faults, binding_event, fault_at, otherwise, use_outcome, binding_at, variable_outcome};
 ghost use Rattle.mentions.specs.MarkViews.{standing_view, row_view, body_view, role_view, mention_view};
 ghost use Rattle.tracked_rows.specs.RowViews.{known_view};
 ghost use Rattle.uses.specs.OutcomeViews.{binding_view, AddsFaults, Gives, again_of, binding_outcome_of, mention_outcome_of, row_outcome_of, role_outcome_of};
-ghost use Rattle.meaning.specs.Tracked.{only_call};
 
 use crate::at::At;
 use crate::bindings::{Binding, binding_at};
@@ -22,27 +21,13 @@ use std::alloc::{AllocError, Global};
 use tracked::{
     Local, LocalRole, SeenLocal, declared_by, kind, tracked_kind, type_from, variable_of,
 };
-use tracked_rows::{Callee, Event, Known, callee_of, only_call, row_giving};
+use tracked_rows::{Event, Known, called_in, row_giving};
 
 /// A local that was found, at a mention of it.
 #[derive(Clone, Copy)]
 struct Found<'s, 'k, 'm, 'a> {
     at: At<'s, 'k, 'm, 'a>,
     entry: SeenLocal<'a>,
-}
-
-/// The function that is called as the only value of the row.
-pub fn called_in<'a>(known: Known<'_, 'a>, row: Row<'a>) -> Callee<'a>
-    ensures { callee_view result ≡ called_in (known_view known.entry) (only_call (row_view row.entry)
-        (row_view row.entry).values) }
-{
-    match only_call(&row) {
-        Some(call) => callee_of(known, call.callee),
-        None => Callee {
-            path: None,
-            name: "",
-        },
-    }
 }
 
 /// What the binding does.

@@ -5,9 +5,8 @@ ghost use Rattle.mentions.specs.MarkViews.{mention_view};
 ghost use Rattle.tracked_rows.specs.RowViews.{known_view};
 ghost use Rattle.uses.specs.OutcomeViews.{is_recover};
 
-use allowed_uses::means_universe;
 use mentions::Mention;
-use tracked_rows::Known;
+use tracked_rows::{Known, means_universe};
 
 /// Whether it is a mention of the universe's `recover`.
 pub fn is_recover(known: Known<'_, '_>, mention: Mention<'_, '_>) -> bool

@@ -4,7 +4,7 @@ use Rattle.facts.specs.FactViews.{cancel_result_view}
 use Rattle.kept_events.specs.KeptEventViews.{AddsHanded}
 use Rattle.meaning.specs.Uses.{Handed, found}
 use Rattle.tracked.specs.LocalViews.{entry_of, entry_view, seen_view}
-use Rattle.uses.proofs.OutcomesOfEntries.{handed_same}
+use Rattle.kept_events.proofs.HandedLocals.{handed_same}
 use Rattle.kept_events.proofs.returned.add_item.Goals as goal
 
 pub returns-in-Some : goal.returns-in-Some

@@ -5,8 +5,8 @@ ghost use Rattle.meaning.specs.Tracked.{is_universe};
 ghost use Rattle.names.specs.Answers.{decl_view};
 ghost use Rattle.tracked_rows.specs.RowViews.{known_view};
 
+use crate::known::{Known, meaning};
 use names::NameMeaning;
-use tracked_rows::{Known, meaning};
 
 fn is_universe(meaning: Option<NameMeaning<'_>>) -> bool
     ensures { result ≡ is_universe (option_map decl_view meaning.entry) }
