@@ -1,0 +1,2 @@
+-- What the contracts of this crate name: what it keeps, and what that stands for.
+pub mod FactViews
