@@ -2,7 +2,7 @@
 use Rattle.std.proofs.Common.{◌≡◌, ℕ, Bool, true, false, if◌then◌else◌, List, [], ◌∷◌, ◌++◌, filter, sym, ap, ◌∙◌, subst}
 use Rattle.std.specs.List.{AllZip}
 use Rattle.std.proofs.lemmas.List.{append_assoc, append-nil}
-use Rattle.judge.specs.declared.units.ImportedUnit.{ImportedUnit}
+use Rattle.unit_reports.specs.declared.units.ImportedUnit.{ImportedUnit}
 use Rattle.unit_reading.specs.ToldImports.{counts_in}
 use Rattle.unit_reading.specs.declared.vetx_input.ToldImport.{ToldImport}
 use Rattle.driver.specs.UnitRuns.{AreCounted, AreCountedSoFar, IsCounted}

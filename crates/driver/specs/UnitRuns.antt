@@ -17,15 +17,15 @@ use Rattle.folders.specs.declared.fault.Fault.{Fault}
 use Rattle.folders.specs.declared.fault.Fault.TheVariants.{CannotRead, CannotWrite, CannotWriteFile, FunctionTooLarge, OutOfMemory}
 use Rattle.folders.specs.declared.whole_files.ReadFile.{ReadFile}
 use Rattle.folders.specs.declared.whole_files.WrittenFile.{WrittenFile}
-use Rattle.judge.specs.OneUnit.{IsReportOfUnit, IsUnitReportFault}
-use Rattle.judge.specs.UnitLaws.{IsKeptOf}
-use Rattle.judge.specs.declared.one_unit.UnitReportFault.{UnitReportFault}
-use Rattle.judge.specs.declared.one_unit.UnitReportFault.TheVariants as unit_fault
-use Rattle.judge.specs.declared.units.ImportedUnit.{ImportedUnit}
+use Rattle.unit_reports.specs.OneUnit.{IsReportOfUnit, IsUnitReportFault}
+use Rattle.unit_reports.specs.UnitLaws.{IsKeptOf}
+use Rattle.unit_reports.specs.declared.one_unit.UnitReportFault.{UnitReportFault}
+use Rattle.unit_reports.specs.declared.one_unit.UnitReportFault.TheVariants as unit_fault
+use Rattle.unit_reports.specs.declared.units.ImportedUnit.{ImportedUnit}
 use Rattle.told_reports.specs.declared.unit.UnitForm.{UnitForm}
 use Rattle.told_reports.specs.declared.unit.UnitShape.{UnitShape}
 use Rattle.told_reports.specs.declared.unit.UnitShape.TheVariants.{Text, Json}
-use Rattle.judge.specs.declared.units.UnitReport.{UnitReport}
+use Rattle.unit_reports.specs.declared.units.UnitReport.{UnitReport}
 use Rattle.unit_config.specs.UnitValues.{unit_of, UnitEntry}
 use Rattle.unit_reading.specs.ToldImports.{counts_in}
 use Rattle.unit_reading.specs.UnitsTold.{without_suffix, IsUnitFileFault, IsUnitRead}

@@ -1,7 +1,7 @@
 //! The report of a unit, and what is to be kept of it.
 
 ghost use Rattle.std.specs.Prelude.{◌≡◌, IfErr, IfOk, string_bytes};
-ghost use Rattle.judge.specs.declared.one_unit.UnitReportFault.{UnitReportFault};
+ghost use Rattle.unit_reports.specs.declared.one_unit.UnitReportFault.{UnitReportFault};
 ghost use Rattle.unit_config.specs.UnitValues.{unit_of};
 ghost use Rattle.driver.specs.UnitRuns.{AreCounted, IsFormOf, IsShapeOf, IsJudgedSo, IsJudgingFault, IsToldAs};
 
@@ -12,13 +12,13 @@ use crate::unit_input::{UnitInput, number_of};
 use baseline_json::BaselineFinding;
 use command_line::{ReportWords, UnitFlags};
 use folders::{Fault, escaped};
-use judge::{ImportedUnit, UnitForm, UnitReportFault, UnitShape, report_of_unit};
 use load::Leave;
 use report::Format;
 use std::alloc::{AllocError, Global};
 use tree::Edition;
 use unit_config::Unit;
 use unit_reading::{ToldImport, counts_in, without_suffix};
+use unit_reports::{ImportedUnit, UnitForm, UnitReportFault, UnitShape, report_of_unit};
 use vetx_json::Vetx;
 
 /// The text of a unit's report, and what is to be kept of it.

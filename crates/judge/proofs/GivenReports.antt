@@ -22,7 +22,7 @@ use Rattle.certificate_json.specs.declared.certificates.Certificates.{Certificat
 use Rattle.declared_tables.specs.DeclaredTables.{declared_tables}
 use Rattle.imports.specs.Ranks.{Package, Chain}
 use Rattle.judge.proofs.OneLoad.{one_order}
-use Rattle.judge.proofs.QuietYes.{of_texts}
+use Rattle.load.proofs.TreesOfTexts.{of_texts}
 use Rattle.judge.proofs.SourcePlaces.{there}
 use Rattle.judge.specs.QuietYes.{IsToldYes}
 use Rattle.judge.specs.Reports.{Report, IsReportBy}

@@ -27,13 +27,3 @@ mod FullCredits
 mod WrittenNumbers
 mod AlikePackages
 mod GivenReports
-pub mod UnitImports
-pub mod UnitReports
-pub mod UnitTexts
-pub mod UnitFaults
-pub mod UnitTold
-pub mod UnitNames
-pub mod UnitLaws
-pub mod UnitYes
-mod UnitSilence
-mod OneUnit

@@ -5,7 +5,8 @@ use Rattle.all_packages.specs.Reports.{AreReportsBy}
 use Rattle.told_reports.specs.Reports.{TellsReportBy, TellsReport}
 use Rattle.declared_tables.specs.DeclaredTables.{declared_tables}
 use Rattle.judge.proofs.LoadedPackages.{are_as_many, each_loaded}
-use Rattle.judge.proofs.QuietYes.{of_texts, yes_are_quiet}
+use Rattle.load.proofs.TreesOfTexts.{of_texts}
+use Rattle.judge.proofs.QuietYes.{yes_are_quiet}
 use Rattle.judge.proofs.SourcePlaces.{stand_in_sources}
 use Rattle.judge.specs.QuietYes.{YesAreQuiet}
 use Rattle.judge.specs.Reports.{IsReportBy, IsReport}

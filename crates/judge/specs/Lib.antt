@@ -7,10 +7,6 @@ pub mod CheckFaults
 pub mod Certified
 pub mod Explained
 pub mod Verified
--- The same of a package that is judged by itself.
-pub mod Units
-pub mod OneUnit
-pub mod UnitLaws
 -- To be trusted: where `check` and `verify` agree, of the bytes of files.
 pub mod GivenPackages
 pub mod FullCredits
@@ -20,5 +16,3 @@ pub mod PackageLaws
 pub mod CertificateLaws
 -- For a reader of the laws: in which groups the bodies of a file start literals.
 pub mod OwnGroups
--- What serves the proofs.
-pub mod UnitParts

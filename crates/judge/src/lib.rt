@@ -8,9 +8,7 @@ mod check_fault;
 mod explained;
 mod first;
 mod laws;
-mod one_unit;
 mod reports;
-mod units;
 mod verified;
 
 pub use accepting::Telling;
@@ -24,12 +22,7 @@ pub use certified::{CertifiedReport, certified_report_by_workers};
 pub use check_fault::CheckFault;
 pub use explained::{ExplainedReport, explained_report_by_workers};
 pub use first::first_with_causes;
-pub use laws::{
-    given_packages_have_one_report, quiet_given_units, quiet_units, silent_units_are_yes,
-    unit_runs_are_the_report, yes_units_are_quiet,
-};
-pub use one_unit::{UnitReportFault, report_of_unit};
+pub use laws::given_packages_have_one_report;
 pub use reports::{report_by_workers, report_of};
-pub use told_reports::{Counts, Report, UnitForm, UnitShape};
-pub use units::{ImportedUnit, UnitReport, unit_report_of};
+pub use told_reports::{Counts, Report};
 pub use verified::{VerifyFault, verified_report_of};

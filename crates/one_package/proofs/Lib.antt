@@ -6,7 +6,7 @@ mod ImportsNotYes
 pub mod JudgedFiles
 mod LeftOutDots
 mod NeededImports
-mod NothingSaid
+pub mod NothingSaid
 mod ToldFields
 pub mod ToldImports
 mod WholeOnly

@@ -1,6 +1,6 @@
 use Rattle.std.proofs.Common.{refl, rules, subst}
 use Rattle.declared_json.specs.DeclaredPackages.{packages_of}
-use Rattle.judge.specs.OneUnit.{IsReportOfUnit}
+use Rattle.unit_reports.specs.OneUnit.{IsReportOfUnit}
 use Rattle.driver.specs.UnitRuns.{AreCounted, IsFormOf}
 use Rattle.driver.proofs.unit_report.judge_unit.Goals as goal
 

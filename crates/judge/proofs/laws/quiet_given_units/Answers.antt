@@ -1,5 +1,0 @@
-use Rattle.judge.proofs.UnitYes.{quiet_given_units}
-use Rattle.judge.proofs.laws.quiet_given_units.Goals as goal
-
-pub returns : goal.returns
-returns c = quiet_given_units

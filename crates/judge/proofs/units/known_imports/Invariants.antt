@@ -1,7 +1,0 @@
-use Rattle.std.proofs.Common.{drop}
-use Rattle.judge.specs.UnitParts.{KnowsReadSoFar}
-use Rattle.judge.proofs.units.known_imports.Given as goal
-
--- what is known, with what is left, is the whole
-abbrev pub invariant-loop-one : goal.invariant-loop-one
-invariant-loop-one l = KnowsReadSoFar (drop l.one-index l.read) l.read l.known

@@ -1,0 +1,10 @@
+pub mod UnitImports
+pub mod UnitReports
+pub mod UnitTexts
+pub mod UnitFaults
+pub mod UnitTold
+pub mod UnitNames
+pub mod UnitLaws
+pub mod UnitYes
+mod UnitSilence
+mod OneUnit
