@@ -1,6 +1,7 @@
 -- What uses mean in a package's files goes by the names of the packages that it imports.
-use Rattle.std.proofs.Common.{◌≡◌, ℕ, Bool, if◌then◌else◌, ◌&&◌, List, [], ◌∷◌, map, Contains, Option, Some, None, option_map, refl, sym, ap, ◌∙◌, subst}
+use Rattle.std.proofs.Common.{◌≡◌, ℕ, Bool, true, if◌then◌else◌, ◌&&◌, List, [], ◌∷◌, map, Contains, Option, Some, None, is_some, option_map, refl, sym, ap, ◌∙◌, subst}
 use Rattle.std.specs.Prelude.{flat_map, slice_get}
+use Rattle.std.proofs.lemmas.Bool.{false≢true}
 use Rattle.std.proofs.lemmas.Option.{same_Some, slice_get_within, get_or_from_slice_get}
 use Rattle.tree.specs.Syntax.{Identifier, ImportSpec, SourceFile}
 use Rattle.meaning.proofs.Membership.{contains_here, contains_there, contains_map}

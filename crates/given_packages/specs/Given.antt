@@ -14,6 +14,8 @@ use Rattle.whole_packages.specs.CountedViews.{kept_counts}
 use Rattle.whole_packages.specs.LoadedViews.{TellPackages}
 use Rattle.whole_packages.specs.WholeEntries.{is_marked, IsUnranked}
 use Rattle.meaning_reports.specs.Loaded.{LoadedPackage, Tables, counts, import_list, name_in, package_names}
+use Rattle.meaning_reports.specs.WholeFaults.{IsWholeFault}
+use Rattle.report.specs.Entries.{Entry}
 use Rattle.given_packages.specs.declared.given.Given.{Given}
 
 -- the path is that of a given package that has a fault as a whole

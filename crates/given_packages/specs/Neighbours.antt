@@ -1,7 +1,7 @@
 -- What is known of the packages around one before it is judged, and what it has to be right about: the packages that
 -- it imports, as far as they are given, and what is declared of others. So it may be told in a run of all packages, or
 -- to a package that is judged by itself.
-use Rattle.std.specs.Prelude.{ℕ, ◌≡◌, Bool, List, Contains, Option, Some, is_some}
+use Rattle.std.specs.Prelude.{ℕ, ◌≡◌, Bool, List, Contains, Option, Some, is_some, slice_get}
 use Rattle.declared_tables.specs.declared.tables.PackageTable.{PackageTable as KeptTable}
 use Rattle.declared_tables.specs.DeclaredTables.{table_if_any}
 use Rattle.declared_tables.specs.MarkedGivers.{MarksGivers}
@@ -10,7 +10,7 @@ use Rattle.imports.specs.Settling.{place_from}
 use Rattle.imports.specs.Views.{at_path}
 use Rattle.names.specs.Answers.{names_by_path}
 use Rattle.whole_packages.specs.WholeEntries.{is_marked, PicksUnranked}
-use Rattle.meaning_reports.specs.Loaded.{LoadedPackage, Tables, import_list, imported_paths, package_names}
+use Rattle.meaning_reports.specs.Loaded.{LoadedPackage, Tables, counts, import_list, imported_paths, package_names}
 use Rattle.given_packages.specs.declared.given.Given.{Given}
 use Rattle.given_packages.specs.declared.nearby.Neighbours.{Neighbours}
 
