@@ -1,6 +1,6 @@
-//! What is known of the given packages before one is judged: their order by imports, which of them count as given, their
-//! names, and what is declared of others. For a package that is judged by itself, what it is told of those that it
-//! imports.
+//! What is known of the given packages before one is judged: their order by imports, which of them count as given,
+//! their names, and what is declared of others. For a package that is judged by itself, what it is told of those that
+//! it imports.
 #![tactic(auto)]
 
 mod counted;
