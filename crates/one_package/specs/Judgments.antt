@@ -25,6 +25,7 @@ use Rattle.meaning_reports.specs.WholeFaults.{IsWholeFault}
 use Rattle.meaning_reports.specs.PackageReports.{Rules, Said, AreFindingsBy, AreFieldsToTell}
 use Rattle.silent_files.specs.SilentPackages.{GiveNone}
 use Rattle.files_to_walk.specs.Signs.{is_told, may_give}
+use Rattle.given_packages.specs.Neighbours.{PicksCounted}
 use Rattle.one_package.specs.declared.judged.Around.{Around}
 use Rattle.one_package.specs.declared.judged.Judged.{Judged}
 use Rattle.one_package.specs.declared.known_imports.NotYes.{NotYes}
