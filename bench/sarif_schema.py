@@ -51,6 +51,16 @@ STEP = struct(
 THREAD_FLOW = struct("locations", {"locations": each(STEP, minItems=1)}, "id message initialState immutableState")
 CODE_FLOW = struct("threadFlows", {"threadFlows": each(THREAD_FLOW, minItems=1)}, "message")
 SUPPRESSION = struct("kind", {"kind": one_of("inSource", "external"), "justification": TEXT}, "guid status location")
+REPLACEMENT = struct(
+    "deletedRegion", {"deletedRegion": REGION, "insertedContent": struct("", {"text": TEXT}, "binary rendered")}
+)
+CHANGE = struct(
+    "artifactLocation replacements",
+    {"artifactLocation": FILE, "replacements": each(REPLACEMENT, minItems=1, uniqueItems=False)},
+)
+FIX = struct(
+    "artifactChanges", {"description": MESSAGE, "artifactChanges": each(CHANGE, minItems=1, uniqueItems=True)}
+)
 RESULT = struct(
     "message",
     {
@@ -63,9 +73,10 @@ RESULT = struct(
         "relatedLocations": each(LOCATION, uniqueItems=True),
         "suppressions": each(SUPPRESSION, uniqueItems=True),
         "partialFingerprints": {"type": "object", "additionalProperties": TEXT},
+        "fixes": each(FIX, uniqueItems=True),
     },
     "rule kind analysisTarget guid correlationGuid occurrenceCount fingerprints stacks graphs graphTraversals"
-    " baselineState rank attachments hostedViewerUri workItemUris provenance fixes taxa webRequest webResponse",
+    " baselineState rank attachments hostedViewerUri workItemUris provenance taxa webRequest webResponse",
 )
 RULE = struct(
     "id",

@@ -47,14 +47,15 @@ func (v *Vetx) String() string { return string(v.Bytes) }
 
 // What the flags say, which are those of a unit.
 var (
-	edition, facts, baseline string
-	tests, why, accepted     bool
+	edition, facts, baseline           string
+	tests, why, accepted, noKnownFacts bool
 )
 
 func flags() flag.FlagSet {
 	var set flag.FlagSet
 	set.StringVar(&edition, "edition", "", "judge by this edition of the rules, 1 or 2")
 	set.StringVar(&facts, "facts", "", "take this file of declared facts")
+	set.BoolVar(&noKnownFacts, "no-std-facts", false, "take Go's own library as unknown, where it has no facts")
 	set.StringVar(&baseline, "baseline", "", "accept the findings of this report in JSON")
 	set.BoolVar(&tests, "tests", false, "read test files too")
 	set.BoolVar(&why, "why", false, "tell of each finding why it stands there")
@@ -66,6 +67,9 @@ func flags() flag.FlagSet {
 func words() ([]string, error) {
 	told := []string{"-json", fmt.Sprintf("-tests=%t", tests), fmt.Sprintf("-why=%t", why)}
 	told = append(told, fmt.Sprintf("-accepted=%t", accepted))
+	if noKnownFacts {
+		told = append(told, "-no-std-facts")
+	}
 	if edition != "" {
 		told = append(told, "-edition="+edition)
 	}
@@ -114,6 +118,11 @@ func report(pass *analysis.Pass, files []source, found finding) error {
 	for _, step := range found.Related {
 		if _, pos, err := place(pass, files, step.Posn); err == nil {
 			told.Related = append(told.Related, analysis.RelatedInformation{Pos: pos, Message: step.Message})
+		}
+	}
+	for _, suggested := range found.Fixes {
+		if edits, ok := editsOf(pass, files, suggested); ok {
+			told.SuggestedFixes = append(told.SuggestedFixes, analysis.SuggestedFix{Message: suggested.Message, TextEdits: edits})
 		}
 	}
 	pass.Report(told)

@@ -58,6 +58,14 @@ func TestTestFiles(t *testing.T) {
 	}
 }
 
+// What is suggested is done. The program in release may be of earlier sources, which suggest nothing.
+func TestSuggestedFixes(t *testing.T) {
+	if _, err := os.Stat(filepath.Join(filepath.Dir(Path), "BEHIND")); err == nil {
+		t.Skip("the program is of earlier sources")
+	}
+	analysistest.RunWithSuggestedFixes(t, analysistest.TestData(), Analyzer, "fixes")
+}
+
 func TestAcceptedFindings(t *testing.T) {
 	with(t, "accepted=true")
 	analysistest.Run(t, analysistest.TestData(), Analyzer, "accepts")

@@ -129,3 +129,26 @@ func end(tree *ast.File, pos token.Pos, message string) token.Pos {
 	})
 	return found
 }
+
+// editsOf gives the edits of a fix, if each of them lies in a file that the pass has as it is.
+func editsOf(pass *analysis.Pass, files []source, suggested fix) ([]analysis.TextEdit, bool) {
+	var edits []analysis.TextEdit
+	for _, edit := range suggested.Edits {
+		file := fileOf(pass, files, edit.Filename)
+		if file == nil || edit.Start > edit.End || edit.End > file.Size() {
+			return nil, false
+		}
+		edits = append(edits, analysis.TextEdit{Pos: file.Pos(edit.Start), End: file.Pos(edit.End), NewText: []byte(edit.New)})
+	}
+	return edits, true
+}
+
+// fileOf gives the file of this name, if the pass has it as it is.
+func fileOf(pass *analysis.Pass, files []source, name string) *token.File {
+	for _, file := range files {
+		if file.name == name && file.own {
+			return pass.Fset.File(file.tree.Package)
+		}
+	}
+	return nil
+}

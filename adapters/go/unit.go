@@ -34,6 +34,17 @@ type finding struct {
 	Posn     string
 	Message  string
 	Related  []struct{ Posn, Message string }
+	Fixes    []fix `json:"suggested_fixes"`
+}
+
+// A fix is what the program suggests for a finding. Offsets are in bytes, from 0.
+type fix struct {
+	Message string
+	Edits   []struct {
+		Filename   string
+		Start, End int
+		New        string
+	}
 }
 
 // judge runs the program on the package. It gives the findings, and what is kept for packages that import this one.

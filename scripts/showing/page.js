@@ -71,7 +71,7 @@ function filter(){
   $$('.pkg[data-p]').forEach(s=>s.hidden=!n[s.dataset.p]);
   $$('nav li[data-p]').forEach(s=>{const k=n[s.dataset.p];s.hidden=!k;if(k)s.querySelector('b').textContent=k});
   $('output').textContent=vis.length===A.length?A.length+' findings':vis.length+' of '+A.length+' findings';
-  $('#nil').hidden=vis.length>0||!A.length;const any=cs.size||w.length||p;$('#clr').hidden=!any;$('#yes').hidden=!!any;
+  $('#nil').hidden=vis.length>0||!A.length;const any=cs.size||w.length||p;$('#clr').hidden=!any;$$('#yes').forEach(s=>s.hidden=!!any);
   const h=new URLSearchParams;if(cs.size)h.set('code',[...cs]);if(p)h.set('pkg',p);if(w.length)h.set('q',q.value);
   try{history.replaceState(null,'','#'+h)}catch{}}
 function clear(){q.value='';ps.value='';$$('.codes [aria-pressed=true]').forEach(b=>b.setAttribute('aria-pressed',false));filter()}

@@ -94,7 +94,8 @@ def answer_to(room, run, words):
     folder = room.path(run.folder)
     if run.stdin is not None:
         given = os.open(os.path.join(folder, room.filled(run.stdin)), os.O_RDONLY)
-    environment = {"PATH": os.environ.get("PATH", ""), "LC_ALL": "C", **room.faults, **run.variables}
+    variables = {name: room.filled(value) for name, value in run.variables.items()}
+    environment = {"PATH": os.environ.get("PATH", ""), "LC_ALL": "C", **room.faults, **variables}
     how = {"user": room.user, "group": room.user, "extra_groups": []} if room.user else {}
     try:
         process = subprocess.Popen(

@@ -51,21 +51,21 @@ fn closes(byte: u8) -> bool
 }
 
 /// Whether it is a byte of a keyword or identifier.
-fn is_of_word(byte: u8) -> bool
+pub fn is_of_word(byte: u8) -> bool
     ensures { result ≡ is_of_word byte }
 {
     (byte.is_ascii_alphabetic() || byte.is_ascii_digit()) || (byte == b'_' || byte >= 128)
 }
 
 /// The byte at a place, or 0 behind the text's end.
-fn byte_at(text: &[u8], at: usize) -> u8
+pub fn byte_at(text: &[u8], at: usize) -> u8
     ensures { result ≡ slice_index text.now at }
 {
     if at < text.len() { text[at] } else { 0 }
 }
 
-/// Whether the text begins with this word.
-fn begins_with(word: &[u8], text: &[u8]) -> bool
+/// Whether the text begins with this word, and not with a longer one.
+pub fn begins_with(word: &[u8], text: &[u8]) -> bool
     ensures { result ≡ begins_with word.now text.now }
 {
     text.starts_with(word) && !is_of_word(byte_at(text, word.len()))

@@ -1,9 +1,9 @@
 //! What a report tells of packages.
 
-ghost use Rattle.std.specs.Prelude.{◌≡◌, IfOk, map};
+ghost use Rattle.std.specs.Prelude.{◌≡◌, IfOk, map, string_bytes};
 ghost use Rattle.accepting.specs.ByLines.{by_lines};
 ghost use Rattle.accepting.specs.Findings.{explained_finding, explained_package, finding_view, found_view, plain_finding, plain_package};
-ghost use Rattle.accepting.specs.Found.{found_in};
+ghost use Rattle.accepting.specs.Found.{asked_among, found_in, is_asked, told_in};
 
 use crate::baseline::by_baseline;
 use crate::findings::{Finding, FoundPackage};
@@ -169,4 +169,51 @@ pub fn found<'a>(
             by_baseline(alloc, packages, telling.baseline)
         }
     }
+}
+
+/// Whether the package of this path was asked for, where those of these paths were not.
+fn is_asked(unasked: &[String], path: &str) -> bool
+    ensures { result ≡ is_asked (map string_bytes unasked.now) path.now }
+{
+    for one in unasked {
+        if one.as_str() == path {
+            return false;
+        }
+    }
+    true
+}
+
+/// Those of the packages that were asked for.
+fn asked_among<'a>(
+    alloc: Global,
+    packages: Vec<FoundPackage<'a>>,
+    unasked: &[String],
+) -> Result<Vec<FoundPackage<'a>>, AllocError>
+    ensures { IfOk result (λ asked. map found_view asked.items
+        ≡ asked_among (map string_bytes unasked.now) (map found_view packages.entry.items)) }
+{
+    let mut asked = Vec::new(alloc);
+    for one in packages {
+        if is_asked(unasked, one.path) {
+            asked.push(one)?;
+        }
+    }
+    Ok(asked)
+}
+
+/// What is told of packages that were judged: by this telling, and nothing of those that were not asked for.
+///
+/// # Errors
+///
+/// Memory was refused.
+pub fn told<'a>(
+    alloc: Global,
+    packages: Vec<FoundPackage<'a>>,
+    telling: Telling<'_>,
+) -> Result<Vec<FoundPackage<'a>>, AllocError>
+    ensures { IfOk result (λ told. map found_view told.items
+        ≡ told_in telling.entry (map found_view packages.entry.items)) }
+{
+    let asked = asked_among(alloc, packages, telling.unasked)?;
+    found(alloc, asked, telling)
 }

@@ -19,9 +19,10 @@ mod stale;
 mod telling;
 mod verdicts;
 
+pub use bodies::{begins_with, byte_at, is_of_word};
 pub use findings::{Acceptance, Finding, FoundPackage, Verdict};
 pub use found_packages::{
-    explained_package, explained_packages, found, plain_package, plain_packages,
+    explained_package, explained_packages, found, plain_package, plain_packages, told,
 };
 pub use gone_findings::gone;
 pub use laws::{

@@ -19,6 +19,8 @@ flags_of flags = record {
   with_reasons = flags.with_reasons;
   accepted = flags.accepted;
   quiet = flags.quiet;
+  tells_keeping = flags.tells_keeping;
+  without_library = flags.without_library;
 }
 
 abbrev pub wrong_of : WrongValue → VetFlag × List ℕ
@@ -31,4 +33,4 @@ abbrev pub call_of : VetAsked → VetCall
 call_of AsksFlags = asks_flags
 call_of Version = asks_version
 call_of (Unit flags file) = asks_unit (flags_of flags) file.now
-call_of (Wrong wrong) = has_wrong wrong.flag wrong.value.now
+call_of (Wrong wrong file) = has_wrong wrong.flag wrong.value.now file.now

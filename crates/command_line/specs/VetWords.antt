@@ -3,7 +3,7 @@
 -- (The protocol of golang.org/x/tools/go/analysis/unitchecker. Flags have the forms of Go's package flag: one dash or
 -- two, and the value behind `=` or in the next word. One that tells whether something is so may stand without a value,
 -- and then it is. Of a flag that stands there twice the last counts.)
-use Rattle.std.specs.Prelude.{◌≡◌, ◌++◌, ℕ, ◌^◌, ◌==◌, ◌&&◌, ◌||◌, if◌then◌else◌, nat_eq, nat_lt, not, List, [], ◌∷◌, Bool, true, false, Option, Some, None, codes, drop, length, option_and_then, option_map}
+use Rattle.std.specs.Prelude.{◌≡◌, ◌++◌, ℕ, ◌^◌, ◌==◌, ◌&&◌, ◌||◌, if◌then◌else◌, nat_eq, nat_lt, not, List, [], ◌∷◌, Bool, true, false, Option, Some, None, codes, drop, is_some, length, option_and_then, option_map}
 use Rattle.std.specs.List.{after_first, before_first, ends_with, position_or_len, starts_with}
 use Rattle.std.specs.Option.{option_map_or}
 use Rattle.std.specs.Str.{all_ascii_digits, bytes_eq}
@@ -11,7 +11,7 @@ use Rattle.std.specs.Str.Parse.{digits_value, without_leading_plus}
 use Rattle.tree.specs.declared.edition.Edition.{Edition}
 use Rattle.tree.specs.declared.edition.Edition.TheVariants.{First, Second}
 use Rattle.command_line.specs.declared.vet_flags.VetFlag.{VetFlag}
-use Rattle.command_line.specs.declared.vet_flags.VetFlag.TheVariants.{EditionNumber, Facts, Json, Lines, Tests, Reasons, Accepted, Baseline, Quiet}
+use Rattle.command_line.specs.declared.vet_flags.VetFlag.TheVariants.{EditionNumber, Facts, Json, Lines, Tests, Reasons, Accepted, Baseline, Quiet, Keeping, WithoutLibrary}
 
 -- what stands in a word behind its dashes, where it begins with one or two
 abbrev pub behind_dashes : List ℕ → Option (List ℕ)
@@ -31,6 +31,8 @@ flag_named name =
     else if bytes_eq name (codes "accepted") then Some Accepted
     else if bytes_eq name (codes "baseline") then Some Baseline
     else if bytes_eq name (codes "quiet") then Some Quiet
+    else if bytes_eq name (codes "keeping") then Some Keeping
+    else if bytes_eq name (codes "no-std-facts") then Some WithoutLibrary
     else None
 
 abbrev pub equals_sign : ℕ
@@ -63,6 +65,8 @@ has_value Tests = false
 has_value Reasons = false
 has_value Accepted = false
 has_value Quiet = false
+has_value Keeping = false
+has_value WithoutLibrary = false
 
 -- the text has decimal digits alone, at least one, and says a number below 2 ^ 64
 abbrev pub is_number : List ℕ → Bool
@@ -97,7 +101,8 @@ truth_of text = if is_yes text then Some true else if is_no text then Some false
 
 -- What the flags of a unit tell: the edition, the file of declared facts, the earlier report whose findings are
 -- accepted, how many lines are shown around each place, and whether the report is JSON, test files are read, reasons
--- are told, accepted findings are told too, and lines of packages without findings are left out
+-- are told, accepted findings are told too, lines of packages without findings are left out, fields that keep are told,
+-- and what is known of Go's library is left out
 pub record Flags : Type 0 where
   pub edition : Option Edition
   pub facts : Option (List ℕ)
@@ -108,6 +113,8 @@ pub record Flags : Type 0 where
   pub with_reasons : Bool
   pub accepted : Bool
   pub quiet : Bool
+  pub tells_keeping : Bool
+  pub without_library : Bool
 
 abbrev pub no_flags : Flags
 no_flags = record {
@@ -120,6 +127,8 @@ no_flags = record {
   with_reasons = false;
   accepted = false;
   quiet = false;
+  tells_keeping = false;
+  without_library = false;
 }
 
 -- the flags with this value of one of them, where it can have that
@@ -133,6 +142,8 @@ with_value Tests text flags = option_map (λ is. record flags { with_tests = is 
 with_value Reasons text flags = option_map (λ is. record flags { with_reasons = is }) (truth_of text)
 with_value Accepted text flags = option_map (λ is. record flags { accepted = is }) (truth_of text)
 with_value Quiet text flags = option_map (λ is. record flags { quiet = is }) (truth_of text)
+with_value Keeping text flags = option_map (λ is. record flags { tells_keeping = is }) (truth_of text)
+with_value WithoutLibrary text flags = option_map (λ is. record flags { without_library = is }) (truth_of text)
 
 -- what was told so far, and the first value that its flag can't have
 pub record Told : Type 0 where
@@ -179,19 +190,61 @@ unit_after awaited told [] = None
 unit_after awaited told (w ∷ ws) =
     option_map_or (λ next. unit_after next.0 next.1 ws) (after_word awaited w told) (unit_with told w ws)
 
--- what the go command asks for; a value that a flag can't have is told in place of a unit
+abbrev pub slash : ℕ
+slash = 47
+
+-- what stands before the last slash of a name, and what stands behind it, by what is so of all but its first byte
+abbrev pub split_behind : ℕ → List ℕ → Option (List ℕ × List ℕ) → Option (List ℕ × List ℕ)
+split_behind b bs (Some parts) = Some (b ∷ parts.0, parts.1)
+split_behind b bs None = if b == slash then Some ([], bs) else None
+
+abbrev pub split_last : List ℕ → Option (List ℕ × List ℕ)
+split_last [] = None
+split_last (b ∷ bs) = split_behind b bs (split_last bs)
+
+-- The folder that the go command makes for one run, where the file of a unit lies in a folder of it. (Its name begins
+-- with `go-build`, and the file of each unit is its `vet.cfg`.)
+abbrev pub run_folder : List ℕ → Option (List ℕ)
+run_folder file =
+    option_and_then (λ named. option_and_then (λ below. option_and_then (λ run.
+    if bytes_eq named.1 (codes "vet.cfg") && starts_with nat_eq run.1 (codes "go-build") then Some below.0 else None)
+    (split_last below.0)) (split_last named.0)) (split_last file)
+
+-- The go command runs each unit in the folder of its package, so a relative name would mean another file in each.
+abbrev pub is_absolute : List ℕ → Bool
+is_absolute name = starts_with nat_eq name (codes "/")
+
+abbrev pub if_relative : VetFlag → Option (List ℕ) → Option (VetFlag × List ℕ)
+if_relative flag None = None
+if_relative flag (Some name) = if is_absolute name then None else Some (flag, name)
+
+abbrev pub or_next : Option (VetFlag × List ℕ) → Option (VetFlag × List ℕ) → Option (VetFlag × List ℕ)
+or_next (Some wrong) next = Some wrong
+or_next None next = next
+
+-- the first name of a file that can't be meant
+abbrev pub relative_name : Flags → List ℕ → Option (VetFlag × List ℕ)
+relative_name flags file =
+    if is_some (run_folder file) then or_next (if_relative Facts flags.facts) (if_relative Baseline flags.baseline)
+    else None
+
+-- what the go command asks for; a value that a flag can't have is told in place of a unit, that of this file
 pub data VetCall : Type 0 where
   asks_flags : VetCall
   asks_version : VetCall
   asks_unit : Flags → List ℕ → VetCall
-  has_wrong : VetFlag → List ℕ → VetCall
+  has_wrong : VetFlag → List ℕ → (file : List ℕ) → VetCall
 
 abbrev pub unit_or_wrong : Flags → List ℕ → Option (VetFlag × List ℕ) → VetCall
 unit_or_wrong flags file None = asks_unit flags file
-unit_or_wrong flags file (Some wrong) = has_wrong wrong.0 wrong.1
+unit_or_wrong flags file (Some wrong) = has_wrong wrong.0 wrong.1 file
+
+-- a value that is wrong by itself goes before a name that is relative
+abbrev pub call_told : Told → List ℕ → VetCall
+call_told told file = unit_or_wrong told.flags file (or_next told.wrong (relative_name told.flags file))
 
 abbrev pub unit_call : List (List ℕ) → Option VetCall
-unit_call words = option_map (λ u. unit_or_wrong u.0.flags u.1 u.0.wrong) (unit_after None nothing_told words)
+unit_call words = option_map (λ u. call_told u.0 u.1) (unit_after None nothing_told words)
 
 -- there is one word, and it is this one
 abbrev pub is_only : List ℕ → List (List ℕ) → Bool
@@ -213,14 +266,16 @@ IsNoCall word = (words : List (List ℕ)) → vet_call (word ∷ words) ≡ None
 -- the flag as it is written, and the values that it can have
 abbrev pub flag_form : VetFlag → List ℕ
 flag_form EditionNumber = codes "-edition=N (N is 1 or 2)"
-flag_form Facts = codes "-facts=FILE"
+flag_form Facts = codes "-facts=FILE (FILE is an absolute name)"
 flag_form Json = codes "-json (true or false)"
 flag_form Lines = codes "-c=N (N is a number of lines)"
 flag_form Tests = codes "-tests (true or false)"
 flag_form Reasons = codes "-why (true or false)"
 flag_form Accepted = codes "-accepted (true or false)"
-flag_form Baseline = codes "-baseline=FILE"
+flag_form Baseline = codes "-baseline=FILE (FILE is an absolute name)"
 flag_form Quiet = codes "-quiet (true or false)"
+flag_form Keeping = codes "-keeping (true or false)"
+flag_form WithoutLibrary = codes "-no-std-facts (true or false)"
 
 -- what is told of a value that its flag can't have
 abbrev pub wrong_text : VetFlag → List ℕ → List ℕ

@@ -16,8 +16,8 @@ const AFTER: &str = "Exit status:
   2  wrong arguments, or something could not be read or written
 
 Examples:
-  go list -json ./... | ctxvet check --packages -
-  go list -json ./... | ctxvet check -j 4 --format sarif --packages -
+  go list -deps -json ./... | ctxvet check --packages -
+  go list -deps -json ./... | ctxvet check -j 4 --format sarif --packages -
   ctxvet check example.org/pool=./pool
   ctxvet check --cert pool.json example.org/pool=./pool
   ctxvet verify --cert pool.json example.org/pool=./pool
@@ -25,8 +25,8 @@ Examples:
 
 As a tool of the go command:
   go vet -vettool=$(command -v ctxvet) ./...
-with the flags -edition=N, -facts=FILE, -baseline=FILE, -json, -c=N, -tests, -why, -accepted and
--quiet. A package is judged when those that it imports were.";
+with the flags -edition=N, -facts=FILE, -baseline=FILE, -json, -c=N, -tests, -why, -accepted, -quiet,
+-keeping and -no-std-facts. A package is judged when those that it imports were.";
 
 const CHECK: &str = "Checks packages and prints their report";
 
@@ -93,10 +93,10 @@ const PACKAGE: &str = "A package's import path, `=`, and the folder of its files
 each file there is read that ends in .go and not in _test.go";
 
 /// The version of the program.
-pub const VERSION: &str = "0.3.0";
+pub const VERSION: &str = "0.4.0";
 
 /// The version with the editions of the rules that it has, and the versions of Go whose files it reads.
-const VERSION_TEXT: &str = "0.3.0 (rules: edition 2, and 1; reads Go 1.0 to 1.25)";
+const VERSION_TEXT: &str = "0.4.0 (rules: edition 2, and 1; reads Go 1.0 to 1.25)";
 
 /// The name of the option for a list, by which it is told that words of packages may be left out.
 const LIST_ID: &str = "packages";

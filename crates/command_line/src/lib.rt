@@ -2,6 +2,7 @@
 #![tactic(auto)]
 
 mod command;
+mod go_runs;
 mod kept;
 mod options;
 mod values;
@@ -13,6 +14,7 @@ mod vet_told;
 mod words;
 
 pub use command::VERSION;
+pub use go_runs::run_folder;
 pub use vet_asked::{VetAsked, vet_words};
 pub use vet_flags::VetFlag;
 pub use vet_laws::own_words_are_no_call;

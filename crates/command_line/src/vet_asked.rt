@@ -2,8 +2,9 @@
 
 ghost use Rattle.std.specs.Prelude.{◌≡◌, None, map, option_map};
 ghost use Rattle.command_line.specs.VetViews.{call_of, told_of};
-ghost use Rattle.command_line.specs.VetWords.{is_only, is_unit_file, unit_call, unit_or_wrong, unit_with, vet_call};
+ghost use Rattle.command_line.specs.VetWords.{call_told, is_only, is_unit_file, unit_call, unit_with, vet_call};
 
+use crate::go_runs::wrong_in;
 use crate::vet_told::{ToldFlags, UnitFlags, WrongValue, after_word};
 use std::convert::AsStr;
 
@@ -15,9 +16,15 @@ pub enum VetAsked<'a> {
     /// Which program it is.
     Version,
     /// To judge the package of the unit in this file.
-    Unit { flags: UnitFlags<'a>, file: &'a str },
-    /// A unit, but a flag can't have its value.
-    Wrong(WrongValue<'a>),
+    Unit {
+        flags: UnitFlags<'a>,
+        file: &'a str,
+    },
+    /// The unit in this file, but a flag can't have its value.
+    Wrong {
+        wrong: WrongValue<'a>,
+        file: &'a str,
+    },
 }
 
 /// What the words, those after the program's name, ask for, where the go command could have written them.
@@ -64,14 +71,14 @@ fn unit_words<'a, S: AsStr>(words: &'a [S]) -> Option<VetAsked<'a>>
 /// The unit of this file, which is the last word.
 fn unit_with<'a, S: AsStr>(told: ToldFlags<'a>, word: &'a str, rest: &[S]) -> Option<VetAsked<'a>>
     ensures { option_map call_of result
-        ≡ option_map (λ u. unit_or_wrong u.0.flags u.1 u.0.wrong)
+        ≡ option_map (λ u. call_told u.0 u.1)
         (unit_with (told_of told.entry) word.now (map S.text rest.now)) }
 {
     if !rest.is_empty() || !is_unit_file(word) {
         return None;
     }
-    match told.wrong {
-        Some(wrong) => Some(VetAsked::Wrong(wrong)),
+    match wrong_in(told, word) {
+        Some(wrong) => Some(VetAsked::Wrong { wrong, file: word }),
         None => Some(VetAsked::Unit {
             flags: told.flags,
             file: word,

@@ -26,6 +26,10 @@ pub enum VetFlag {
     Baseline,
     /// `-quiet`: whether lines of packages without findings are left out.
     Quiet,
+    /// `-keeping`: whether the fields in which a yes keeps cancel functions are told.
+    Keeping,
+    /// `-no-std-facts`: whether what is known of Go's library is left out.
+    WithoutLibrary,
 }
 
 impl VetFlag {
@@ -39,7 +43,9 @@ impl VetFlag {
             | VetFlag::Tests
             | VetFlag::Reasons
             | VetFlag::Accepted
-            | VetFlag::Quiet => false,
+            | VetFlag::Quiet
+            | VetFlag::Keeping
+            | VetFlag::WithoutLibrary => false,
         }
     }
 }
@@ -93,6 +99,10 @@ fn flag_named(name: &str) -> Option<VetFlag>
         Some(VetFlag::Baseline)
     } else if name == "quiet" {
         Some(VetFlag::Quiet)
+    } else if name == "keeping" {
+        Some(VetFlag::Keeping)
+    } else if name == "no-std-facts" {
+        Some(VetFlag::WithoutLibrary)
     } else {
         None
     }

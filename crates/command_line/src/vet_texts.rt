@@ -17,7 +17,9 @@ pub const VET_FLAGS: &str =
 {\"Name\":\"why\",\"Bool\":true,\"Usage\":\"tell below each finding why it stands there\"},
 {\"Name\":\"accepted\",\"Bool\":true,\"Usage\":\"tell accepted findings too, with their reasons\"},
 {\"Name\":\"baseline\",\"Bool\":false,\"Usage\":\"accept the findings of this report in JSON, by its absolute name\"},
-{\"Name\":\"quiet\",\"Bool\":true,\"Usage\":\"leave out the lines of packages without findings\"}]
+{\"Name\":\"quiet\",\"Bool\":true,\"Usage\":\"leave out the lines of packages without findings\"},
+{\"Name\":\"keeping\",\"Bool\":true,\"Usage\":\"tell the fields in which a yes keeps cancel functions\"},
+{\"Name\":\"no-std-facts\",\"Bool\":true,\"Usage\":\"take Go's own library as unknown\"}]
 ";
 
 impl VetFlag {
@@ -27,14 +29,16 @@ impl VetFlag {
     {
         match self {
             VetFlag::EditionNumber => "-edition=N (N is 1 or 2)",
-            VetFlag::Facts => "-facts=FILE",
+            VetFlag::Facts => "-facts=FILE (FILE is an absolute name)",
             VetFlag::Json => "-json (true or false)",
             VetFlag::Lines => "-c=N (N is a number of lines)",
             VetFlag::Tests => "-tests (true or false)",
             VetFlag::Reasons => "-why (true or false)",
             VetFlag::Accepted => "-accepted (true or false)",
-            VetFlag::Baseline => "-baseline=FILE",
+            VetFlag::Baseline => "-baseline=FILE (FILE is an absolute name)",
             VetFlag::Quiet => "-quiet (true or false)",
+            VetFlag::Keeping => "-keeping (true or false)",
+            VetFlag::WithoutLibrary => "-no-std-facts (true or false)",
         }
     }
 }

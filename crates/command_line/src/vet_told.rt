@@ -10,8 +10,8 @@ use tree::Edition;
 /// What the flags of a unit tell: by which edition of the rules its package is judged, if one is named; the file of
 /// declared facts, if one is named; the earlier report whose findings are accepted, if one is named; how many lines are
 /// shown around each place, or none; whether the report is JSON, whether test files are read, whether the report says
-/// why each finding stands there, whether accepted findings are told too, and whether lines of packages without
-/// findings are left out.
+/// why each finding stands there, whether accepted findings are told too, whether lines of packages without findings
+/// are left out, whether the fields that keep are told, and whether what is known of Go's library is left out.
 #[derive(Clone, Copy, Debug)]
 pub struct UnitFlags<'a> {
     pub edition: Option<Edition>,
@@ -23,6 +23,8 @@ pub struct UnitFlags<'a> {
     pub with_reasons: bool,
     pub accepted: bool,
     pub quiet: bool,
+    pub tells_keeping: bool,
+    pub without_library: bool,
 }
 
 /// A value that its flag can't have.
@@ -55,6 +57,8 @@ impl<'a> ToldFlags<'a> {
                 with_reasons: false,
                 accepted: false,
                 quiet: false,
+                tells_keeping: false,
+                without_library: false,
             },
             wrong: None,
         }
@@ -76,6 +80,8 @@ fn with_value<'a>(flag: VetFlag, text: &'a str, flags: UnitFlags<'a>) -> Option<
         VetFlag::Reasons => told.with_reasons = truth_of(text)?,
         VetFlag::Accepted => told.accepted = truth_of(text)?,
         VetFlag::Quiet => told.quiet = truth_of(text)?,
+        VetFlag::Keeping => told.tells_keeping = truth_of(text)?,
+        VetFlag::WithoutLibrary => told.without_library = truth_of(text)?,
     }
     Some(told)
 }

@@ -1,9 +1,4 @@
 mod AskedReports
 mod FaultsOfCommands
-mod ListedPackages
-mod ReadGiven
-mod WrittenParts
-mod UnitFaults
-mod TakenImports
-mod ToldSo
+mod GivenFaults
 mod CallFaults

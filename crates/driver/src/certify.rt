@@ -1,26 +1,23 @@
 //! A check that writes certificates.
 
 ghost use Rattle.std.specs.Prelude.{◌≡◌, ℕ, List, Bool, IfErr, IfOk};
-ghost use Rattle.driver.specs.declared.input.FilesRead.{FilesRead};
+ghost use Rattle.inputs.specs.declared.input.FilesRead.{FilesRead};
 ghost use Rattle.driver.specs.Faults.{IsCertifyFault, LeavesUnwritten};
-ghost use Rattle.driver.specs.Printing.{refused_by};
-ghost use Rattle.driver.specs.Statuses.{status_of};
+ghost use Rattle.printed.specs.Printing.{refused_by};
+ghost use Rattle.printed.specs.Statuses.{status_of};
 ghost use Rattle.driver.specs.WrittenReport.{IsBegun, IsWritten, OfCertifiedReport};
 ghost use Rattle.folders.specs.declared.whole_files.Reach.TheVariants.{Disk};
 ghost use Rattle.folders.specs.WrittenFiles.{name_of, reach_of, text_of};
 ghost use Rattle.workers.specs.Counts.{count_of};
 
-use crate::input::{FilesRead, Input, edition_of_run, read_sources};
-use crate::notes::note;
-use crate::printing::print;
+use crate::notes::{Notes, note};
 use crate::reports::certified_report_by_workers;
-use crate::status::Status;
-use crate::telling::telling_of;
-use crate::writers::Refusals;
 use command_line::CertifyWords;
 use folders::{Fault, Surroundings, UnwrittenFile, WrittenFile, write_file};
+use inputs::{FilesRead, Input, read_sources, telling_for};
 use judge::{CertifiedReport, Settings};
 use load::Leave;
+use printed::{Refusals, Status, print};
 use std::io::Write;
 use std::rt::Files;
 use std::sync::Wait;
@@ -55,7 +52,8 @@ pub fn certify<
         (text_of done.file) (IsWritten (W.contents out.old) (W.contents out.new) yes)) }
     ensures file { IfOk result (λ done. name_of done.file ≡ asked.now.file.now) }
     ensures reach { IfOk result (λ done. reach_of done.file ≡ Disk) }
-    ensures fault { IfErr result (IsCertifyFault asked.now.sources (count_of asked.now.workers)) }
+    ensures fault { IfErr result
+        (IsCertifyFault asked.now.sources asked.now.file.now (count_of asked.now.workers)) }
     ensures unwritten { IfErr result (λ fault. LeavesUnwritten fault (W.contents out.old) (W.contents out.new)) }
     ensures begun { IfErr result (λ fault. fault ≡ Fault.CannotWrite
         → (files : FilesRead) × (text : List ℕ)
@@ -75,14 +73,18 @@ pub fn certify<
         given,
         noted,
     } = input;
-    let known = &files.baseline.findings;
     let settings = Settings {
         workers: asked.workers,
-        telling: telling_of(edition_of_run(&asked.sources), asked.report, true, known),
+        telling: telling_for(&asked.sources, asked.report, true, &files),
     };
     let told = certified_report_by_workers::<R, L>(rt, given, outside, settings)?;
     print(out, &told.report.text, refusals)?;
-    note(rt.alloc(), &files, &noted, told.report.counts, err);
+    let notes = Notes {
+        read: &noted,
+        not_given: &told.not_given,
+        counts: told.report.counts,
+    };
+    note(rt.alloc(), &files, notes, err);
     let status = Status::of_verdict(told.report.passes);
     let file = write_file(rt, file, told.certificates)?;
     Ok(Certified {

@@ -1,24 +1,21 @@
 //! A check, and its report as it is.
 
 ghost use Rattle.std.specs.Prelude.{◌≡◌, Bool, IfErr, IfOk};
-ghost use Rattle.driver.specs.declared.input.FilesRead.{FilesRead};
+ghost use Rattle.inputs.specs.declared.input.FilesRead.{FilesRead};
 ghost use Rattle.driver.specs.Faults.{IsCheckFault, LeavesUnwritten};
-ghost use Rattle.driver.specs.Printing.{refused_by};
-ghost use Rattle.driver.specs.Statuses.{status_of};
+ghost use Rattle.printed.specs.Printing.{refused_by};
+ghost use Rattle.printed.specs.Statuses.{status_of};
 ghost use Rattle.driver.specs.WrittenReport.{IsBegun, IsWritten, OfReport};
 ghost use Rattle.workers.specs.Counts.{count_of};
 
-use crate::input::{FilesRead, Input, edition_of_run, read_sources};
-use crate::notes::note;
-use crate::printing::print;
+use crate::notes::{Notes, note};
 use crate::reports::report_by_workers;
-use crate::status::Status;
-use crate::telling::telling_of;
-use crate::writers::Refusals;
 use command_line::CheckWords;
 use folders::{Fault, Surroundings};
+use inputs::{FilesRead, Input, read_sources, telling_for};
 use judge::Settings;
 use load::Leave;
+use printed::{Refusals, Status, print};
 use std::io::Write;
 use std::rt::Files;
 use std::sync::Wait;
@@ -61,16 +58,20 @@ pub fn check<
         given,
         noted,
     } = input;
-    let known = &files.baseline.findings;
     let settings = Settings {
         workers: asked.workers,
-        telling: telling_of(edition_of_run(&asked.sources), asked.report, true, known),
+        telling: telling_for(&asked.sources, asked.report, true, &files),
     };
-    let report = report_by_workers::<R, L>(rt, given, outside, settings)?;
-    print(out, &report.text, refusals)?;
-    note(rt.alloc(), &files, &noted, report.counts, err);
+    let told = report_by_workers::<R, L>(rt, given, outside, settings)?;
+    print(out, &told.report.text, refusals)?;
+    let notes = Notes {
+        read: &noted,
+        not_given: &told.not_given,
+        counts: told.report.counts,
+    };
+    note(rt.alloc(), &files, notes, err);
     Ok(Checked {
-        status: Status::of_verdict(report.passes),
+        status: Status::of_verdict(told.report.passes),
         files,
     })
 }

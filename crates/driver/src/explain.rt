@@ -1,25 +1,22 @@
 //! A check that tells why each finding stands there.
 
 ghost use Rattle.std.specs.Prelude.{◌≡◌, Bool, IfErr, IfOk};
-ghost use Rattle.driver.specs.declared.input.FilesRead.{FilesRead};
+ghost use Rattle.inputs.specs.declared.input.FilesRead.{FilesRead};
 ghost use Rattle.driver.specs.Faults.{IsCheckFault, LeavesUnwritten};
-ghost use Rattle.driver.specs.Printing.{refused_by};
-ghost use Rattle.driver.specs.Statuses.{status_of};
+ghost use Rattle.printed.specs.Printing.{refused_by};
+ghost use Rattle.printed.specs.Statuses.{status_of};
 ghost use Rattle.driver.specs.WrittenReport.{IsBegun, IsWritten, OfExplainedReport};
 ghost use Rattle.workers.specs.Counts.{count_of};
 
 use crate::check::Checked;
-use crate::input::{Input, edition_of_run, read_sources};
-use crate::notes::note;
-use crate::printing::print;
+use crate::notes::{Notes, note};
 use crate::reports::explained_report_by_workers;
-use crate::status::Status;
-use crate::telling::telling_of;
-use crate::writers::Refusals;
 use command_line::CheckWords;
 use folders::{Fault, Surroundings};
+use inputs::{Input, read_sources, telling_for};
 use judge::Settings;
 use load::Leave;
+use printed::{Refusals, Status, print};
 use std::io::Write;
 use std::rt::Files;
 use std::sync::Wait;
@@ -57,14 +54,18 @@ pub fn explain<
         given,
         noted,
     } = input;
-    let known = &files.baseline.findings;
     let settings = Settings {
         workers: asked.workers,
-        telling: telling_of(edition_of_run(&asked.sources), asked.report, true, known),
+        telling: telling_for(&asked.sources, asked.report, true, &files),
     };
     let told = explained_report_by_workers::<R, L>(rt, given, outside, settings)?;
     print(out, &told.text, refusals)?;
-    note(rt.alloc(), &files, &noted, told.report.counts, err);
+    let notes = Notes {
+        read: &noted,
+        not_given: &told.not_given,
+        counts: told.report.counts,
+    };
+    note(rt.alloc(), &files, notes, err);
     Ok(Checked {
         status: Status::of_verdict(told.report.passes),
         files,

@@ -1,30 +1,30 @@
 //! Notes on standard error, which change no answer.
 
-use crate::input::{FilesRead, Noted};
+use inputs::{FilesRead, Noted};
 use judge::Counts;
+use printed::{PROGRAM, not_given_note, tell};
 use std::alloc::{AllocError, Global};
 use std::io::Write;
 
-/// The program's name, with which the lines of its notes and faults begin.
-pub const PROGRAM: &str = "ctxvet";
+/// What notes tell: of what was read, which given packages count as not given, and how much the report tells.
+#[derive(Clone, Copy)]
+pub struct Notes<'n> {
+    pub read: &'n Noted,
+    pub not_given: &'n [String],
+    pub counts: Counts,
+}
 
-/// Notes which folders have no Go file, and of which given packages something is declared; where a list of packages was
-/// read, how many are yes and how many findings there are; and how many findings of an earlier run are gone. Where
-/// standard error fails, or memory is refused for a note, nobody is left to be told.
-pub fn note<E: Write>(
-    alloc: Global,
-    files: &FilesRead<'_>,
-    noted: &Noted,
-    counts: Counts,
-    err: &mut E,
-) {
-    for folder in &noted.empty {
+/// Notes which folders have no Go file, of which given packages something is declared, and which count as not given;
+/// where a list of packages was read, how many are yes and how many findings there are; and how many findings of an
+/// earlier run are gone. Where standard error fails, or memory is refused for a note, nobody is left to be told.
+pub fn note<E: Write>(alloc: Global, files: &FilesRead<'_>, notes: Notes<'_>, err: &mut E) {
+    for folder in &notes.read.empty {
         tell(
             format!(in alloc; "{PROGRAM}: note: no Go files in {folder}\n"),
             err,
         );
     }
-    for path in &noted.passed_over {
+    for path in &notes.read.passed_over {
         tell(
             format!(in alloc;
                 "{PROGRAM}: note: facts of a given package are passed over: {path}\n"
@@ -32,20 +32,16 @@ pub fn note<E: Write>(
             err,
         );
     }
-    if files.list.is_some() {
-        tell(counted(alloc, counts), err);
+    for path in notes.not_given {
+        tell(not_given_note(alloc, path), err);
     }
-    if counts.gone > 0 {
-        tell(gone(alloc, counts.gone), err);
+    if files.list.file.is_some() {
+        tell(counted(alloc, notes.counts), err);
+    }
+    if notes.counts.gone > 0 {
+        tell(gone(alloc, notes.counts.gone), err);
     }
     let _ = err.flush();
-}
-
-/// Writes a note as one piece, so that none stands within a line of another process.
-fn tell<E: Write>(note: Result<String, AllocError>, err: &mut E) {
-    if let Ok(line) = note {
-        let _ = err.write_all(line.as_bytes());
-    }
 }
 
 /// How many packages were judged, how many are yes, accepted and no, and how many findings there are in all.

@@ -3,27 +3,24 @@
 ghost use Rattle.std.specs.Prelude.{◌≡◌, IfErr, IfOk, map};
 ghost use Rattle.command_line.specs.VetWords.{vet_call};
 ghost use Rattle.driver.specs.Faults.{IsRunFault, LeavesUnwritten};
-ghost use Rattle.driver.specs.Printing.{refused_by};
-ghost use Rattle.driver.specs.Statuses.{status_code};
+ghost use Rattle.printed.specs.Printing.{refused_by};
+ghost use Rattle.printed.specs.Statuses.{status_code};
 ghost use Rattle.driver.specs.WrittenReport.{Does, DoesBy, EndsWith, FailsBy, LeavesBegun, LeavesWhole};
 
 use crate::certify::certify;
 use crate::check::check;
 use crate::explain::explain;
-use crate::notes::PROGRAM;
-use crate::printing::print;
-use crate::status::Status;
 use crate::verify::verify;
-use crate::vet::vet;
-use crate::writers::Refusals;
 use command_line::{Asked, read_words, vet_words};
 use folders::{Fault, Surroundings, fail};
 use load::{Leave, LetGo};
+use printed::{PROGRAM, Refusals, Status, print};
 use std::convert::AsStr;
 use std::io::Write;
 use std::rt::Files;
 use std::sync::Wait;
 use std::thread::Threads;
+use vet_units::vet;
 
 /// Runs the program with the words after its name: prints its report or help on `out` and its fault on `err`, and
 /// returns its status. 0: each package is yes, or help or the version was asked for. 1: some package is no. 2: a fault,

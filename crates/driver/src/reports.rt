@@ -1,7 +1,7 @@
 //! The reports of given packages, with the faults that the program tells.
 
 ghost use Rattle.std.specs.Prelude.{◌≡◌, [], IfErr, IfOk, string_bytes};
-ghost use Rattle.driver.specs.Faults.{fault_of_check, fault_of_load, fault_of_verify, IsReportFault, IsSharedReportFault, IsVerdictFault};
+ghost use Rattle.driver.specs.Faults.{fault_of_check, fault_of_verify, IsReportFault, IsSharedReportFault, IsVerdictFault};
 ghost use Rattle.judge.specs.Certified.{IsCertifiedReport};
 ghost use Rattle.judge.specs.Explained.{IsExplainedReport};
 ghost use Rattle.judge.specs.Reports.{IsReport};
@@ -9,27 +9,18 @@ ghost use Rattle.judge.specs.Verified.{IsVerifiedReport};
 ghost use Rattle.declared_json.specs.DeclaredPackages.{packages_of};
 ghost use Rattle.workers.specs.Counts.{count_of};
 
-use crate::facts_input::nothing_declared;
 use certificate_json::Certificates;
 use declared_json::DeclaredPackages;
 use folders::Fault;
-use judge::{CertifiedReport, CheckFault, ExplainedReport, Report, Settings, Telling, VerifyFault};
-use load::{GivenPackage, Leave, LoadFault};
+use inputs::{fault_of_load, nothing_declared};
+use judge::{
+    CertifiedReport, CheckFault, ExplainedReport, NotedReport, Report, Settings, Telling,
+    VerifyFault,
+};
+use load::{GivenPackage, Leave};
 use std::alloc::Global;
 use std::sync::Wait;
 use std::thread::Threads;
-
-/// Why packages are not loaded, as the program tells it.
-pub(crate) fn fault_of_load(fault: LoadFault) -> Fault
-    ensures { result ≡ fault_of_load fault }
-{
-    match fault {
-        LoadFault::TooMany => Fault::TooManyPackages,
-        LoadFault::TwoPackages(path) => Fault::TwoPackages(path),
-        LoadFault::NamesGiven(path) => Fault::FactsNameGiven(path),
-        LoadFault::OutOfMemory => Fault::OutOfMemory,
-    }
-}
 
 /// The report of these packages, in the order of their paths, where nothing is declared of others. No thread is
 /// started.
@@ -74,13 +65,14 @@ pub fn report_by_workers<R: AllocGlobal + Threads + Wait + Sync, L: Leave>(
     given: Vec<GivenPackage>,
     outside: DeclaredPackages,
     settings: Settings<'_>,
-) -> Result<Report, Fault>
-    ensures report { IfOk result (IsReport settings.entry.telling (packages_of outside) given.items) }
+) -> Result<NotedReport, Fault>
+    ensures report { IfOk result (λ told.
+        IsReport settings.entry.telling (packages_of outside) given.items told.report) }
     ensures fault { IfErr result
         (IsSharedReportFault (packages_of outside) given.items (count_of settings.entry.workers)) }
 {
     match judge::report_by_workers::<R, L>(rt, rt.alloc(), given, outside, settings) {
-        Ok(report) => Ok(report),
+        Ok(told) => Ok(told),
         Err(fault) => Err(fault_of_check(fault)),
     }
 }
@@ -151,12 +143,13 @@ pub fn verified_report_of<L: Leave>(
     outside: DeclaredPackages,
     certificates: &Certificates,
     telling: Telling<'_>,
-) -> Result<Report, Fault>
-    ensures report { IfOk result (IsVerifiedReport telling.entry (packages_of outside) given.items certificates.now) }
+) -> Result<NotedReport, Fault>
+    ensures report { IfOk result (λ told.
+        IsVerifiedReport telling.entry (packages_of outside) given.items certificates.now told.report) }
     ensures fault { IfErr result (IsVerdictFault (packages_of outside) given.items certificates.now) }
 {
     match judge::verified_report_of::<L>(alloc, given, outside, certificates, telling) {
-        Ok(report) => Ok(report),
+        Ok(told) => Ok(told),
         Err(fault) => Err(fault_of_verify(fault)),
     }
 }

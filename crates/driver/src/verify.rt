@@ -1,57 +1,21 @@
 //! A judgement by certificates.
 
-ghost use Rattle.std.specs.Prelude.{◌≡◌, Bool, true, IfErr, IfOk};
-ghost use Rattle.driver.specs.declared.input.FilesRead.{FilesRead};
-ghost use Rattle.driver.specs.Faults.{is_of_bytes, IsReadingFault, IsVerificationFault, LeavesUnwritten};
-ghost use Rattle.driver.specs.Packages.{AreReadFor};
-ghost use Rattle.driver.specs.Certificates.{StandIn};
-ghost use Rattle.driver.specs.Printing.{refused_by};
-ghost use Rattle.driver.specs.Statuses.{status_of};
+ghost use Rattle.std.specs.Prelude.{◌≡◌, Bool, IfErr, IfOk};
+ghost use Rattle.inputs.specs.declared.input.FilesRead.{FilesRead};
+ghost use Rattle.driver.specs.Faults.{IsVerificationFault, LeavesUnwritten};
+ghost use Rattle.printed.specs.Printing.{refused_by};
+ghost use Rattle.printed.specs.Statuses.{status_of};
 ghost use Rattle.driver.specs.WrittenReport.{IsBegun, IsWritten, OfVerifiedReport};
 
-use crate::certificate_input::read_certificates;
-use crate::input::{FilesRead, Input, edition_of_run, read_input};
-use crate::notes::note;
-use crate::packages::{FoldersAsked, all_named};
-use crate::printing::print;
+use crate::notes::{Notes, note};
 use crate::reports::verified_report_of;
-use crate::status::Status;
-use crate::telling::telling_of;
-use crate::writers::Refusals;
-use certificate_json::Certificates;
 use command_line::VerifyWords;
 use folders::{Fault, Surroundings};
+use inputs::{Evidence, FilesRead, FoldersAsked, Input, read_evidence, telling_for};
 use load::Leave;
+use printed::{Refusals, Status, print};
 use std::io::Write;
 use std::rt::Files;
-
-/// What is read for it: the certificates, and what is read for any report.
-#[derive(Drop)]
-struct Evidence<'a> {
-    certificates: Certificates,
-    input: Input<'a>,
-}
-
-/// Reads the file of certificates, and after it what is read for any report.
-fn read_evidence<'a, R: Files + Surroundings + AllocGlobal>(
-    rt: &R,
-    asked: &VerifyWords<'a>,
-    folders: &mut FoldersAsked,
-) -> Result<Evidence<'a>, Fault>
-    ensures certificates { IfOk result (λ read. StandIn read.certificates) }
-    ensures read { IfOk result (λ read.
-        AreReadFor asked.now.sources read.input.files read.input.outside read.input.given.items) }
-    ensures fault { IfErr result (IsReadingFault asked.now.sources) }
-    ensures order { IfErr result (λ fault. is_of_bytes fault ≡ true → folders.new.any ≡ folders.old.any) }
-{
-    let packages = all_named(rt.alloc(), &asked.sources.packages)?;
-    let certificates = read_certificates(rt, asked.file)?;
-    let input = read_input(rt, &packages, &asked.sources, folders)?;
-    Ok(Evidence {
-        certificates,
-        input,
-    })
-}
 
 /// How a verification ended, and the files that were read for it beside those of packages and certificates.
 #[derive(Debug, Drop)]
@@ -70,12 +34,12 @@ pub fn verify<'a, R: Files + Surroundings + AllocGlobal, W: Write, E: Write, L: 
     refusals: &mut Refusals,
 ) -> Result<Verified<'a>, Fault>
     ensures written { IfOk result (λ done. (yes : Bool) × (done.status ≡ status_of yes)
-        × OfVerifiedReport asked.now.sources asked.now.report done.files
+        × OfVerifiedReport asked.now.sources asked.now.report done.files asked.now.file.now
         (IsWritten (W.contents out.old) (W.contents out.new) yes)) }
-    ensures fault { IfErr result (IsVerificationFault asked.now.sources) }
+    ensures fault { IfErr result (IsVerificationFault asked.now.sources asked.now.file.now) }
     ensures unwritten { IfErr result (λ fault. LeavesUnwritten fault (W.contents out.old) (W.contents out.new)) }
     ensures begun { IfErr result (λ fault. fault ≡ Fault.CannotWrite → (files : FilesRead)
-        × OfVerifiedReport asked.now.sources asked.now.report files
+        × OfVerifiedReport asked.now.sources asked.now.report files asked.now.file.now
         (IsBegun (W.contents out.old) (W.contents out.new))) }
     ensures refused { refusals.new.any ≡ refused_by refusals.old.any result }
 {
@@ -90,13 +54,17 @@ pub fn verify<'a, R: Files + Surroundings + AllocGlobal, W: Write, E: Write, L: 
         given,
         noted,
     } = input;
-    let known = &files.baseline.findings;
-    let telling = telling_of(edition_of_run(&asked.sources), asked.report, false, known);
-    let report = verified_report_of::<L>(rt.alloc(), given, outside, &certificates, telling)?;
-    print(out, &report.text, refusals)?;
-    note(rt.alloc(), &files, &noted, report.counts, err);
+    let telling = telling_for(&asked.sources, asked.report, false, &files);
+    let told = verified_report_of::<L>(rt.alloc(), given, outside, &certificates, telling)?;
+    print(out, &told.report.text, refusals)?;
+    let notes = Notes {
+        read: &noted,
+        not_given: &told.not_given,
+        counts: told.report.counts,
+    };
+    note(rt.alloc(), &files, notes, err);
     Ok(Verified {
-        status: Status::of_verdict(report.passes),
+        status: Status::of_verdict(told.report.passes),
         files,
     })
 }

@@ -8,7 +8,7 @@ use Rattle.lexer.specs.declared.source.Source.{Source}
 use Rattle.tree.specs.Syntax.{ImportSpec, SourceFile}
 use Rattle.tree.specs.View.{file_syntax}
 use Rattle.tree.specs.declared.file.File.{File}
-use Rattle.meaning.specs.TreeOfText.{IsTreeOf}
+use Rattle.meaning_reports.specs.MeantImports.{IsTreeButForImports}
 use Rattle.meaning_reports.specs.Loaded.{Reading, has_tree, has_text_fault, has_tree_fault, LoadedPackage, NumberedTree, Tables, trees_from, trees_of, imports_of, signatures_of, imported_signatures, known_in}
 use Rattle.meaning_reports.specs.WholeFaults.{HasNoWholeFault, has_no_tokens, has_no_tree}
 use Rattle.meaning.proofs.Membership.{contains_here}
@@ -57,7 +57,7 @@ module _ (ps : List LoadedPackage) (tables : Tables) (p : LoadedPackage) (givers
   }
 
   quiet_so : (number : ℕ) (tree : SourceFile) (text : List ℕ) → slice_get (trees_of p) number ≡ Some tree
-      → IsTreeOf p.edition text tree
+      → IsTreeButForImports p.edition text tree
       → IsQuiet givers tree text
       → MayBeSkipped ps tables p number tree
   quiet_so number tree text is spelled quiet =

@@ -1,3 +1,5 @@
+pub mod HandedOn
+pub mod ReadFaults
 mod BaseNames
 mod Cuts
 mod Fronts

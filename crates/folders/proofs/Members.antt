@@ -1,5 +1,5 @@
 -- Membership of a mapped list.
-use Rattle.std.proofs.Common.{◌≡◌, ◌<◌, List, [], ◌∷◌, length, get_or, map, Contains, ap, ◌∙◌, subst, sym, arith}
+use Rattle.std.proofs.Common.{◌≡◌, ◌<◌, List, [], ◌∷◌, get_or, map, Contains, ap, ◌∙◌, subst, sym, arith}
 use Rattle.std.proofs.lemmas.List.{length-map, get_or-map, get_or_default}
 
 module _ {X Y : Type 0} (f : X → Y) where

@@ -1,6 +1,6 @@
 -- Which entries of a folder are Go files of the package, and how a report names them.
 -- As with the go command, test files are not part of the package (`go help test`). Build constraints are not read.
-use Rattle.std.specs.Prelude.{◌≡◌, ℕ, Bool, true, not, ◌&&◌, List, [], ◌++◌, map, if◌then◌else◌, nat_eq, codes, All, String, string_bytes, string_cmp}
+use Rattle.std.specs.Prelude.{◌≡◌, ◌⊎◌, ℕ, Bool, true, not, ◌&&◌, List, [], ◌++◌, map, if◌then◌else◌, nat_eq, codes, All, String, string_bytes, string_cmp}
 use Rattle.std.specs.List.{ends_with}
 use Rattle.std.specs.List.Sorted.{IsStrictlySortedBy}
 use Rattle.lexer.specs.declared.source.Source.{Source}
@@ -17,6 +17,11 @@ slash_after folder = if ends_with nat_eq folder (codes "/") then [] else codes "
 -- a file as a report names it: the folder, the slash, and the file's own name
 abbrev pub source_name : List ℕ → List ℕ → List ℕ
 source_name folder name = folder ++ (slash_after folder ++ name)
+
+-- the folder, or a Go file of it, as a report names it
+abbrev pub IsOfFolder : List ℕ → List ℕ → Type 0
+IsOfFolder folder name =
+    (name ≡ folder) ⊎ ((own : List ℕ) × (is_go_file own ≡ true) × (name ≡ source_name folder own))
 
 -- the name is that of a Go file, and a report can print it
 abbrev pub IsGoName : List ℕ → Type 0

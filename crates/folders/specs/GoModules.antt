@@ -69,10 +69,14 @@ module_in = module_from true
 abbrev pub IsAbove : List ℕ → List ℕ → Type 0
 IsAbove folder place = (place ≡ folder) ⊎ ((rest : List ℕ) × (folder ≡ place ++ (codes "/" ++ rest)))
 
+-- the file of a module, as a report names it
+abbrev pub module_file : List ℕ → List ℕ
+module_file place = source_name place (codes "go.mod")
+
 -- the file `go.mod` of this folder was read, and it says this path
 pub record IsSaidIn (place path : List ℕ) : Type 0 where
   pub file : ReadFile
-  pub is_named : name_read file ≡ source_name place (codes "go.mod")
+  pub is_named : name_read file ≡ module_file place
   pub is_path : path ≡ module_in (bytes_read file)
 
 -- a name that does not begin with a slash is that of a folder below the current one
@@ -83,8 +87,16 @@ is_relative folder = not (starts_with nat_eq folder (codes "/"))
 abbrev pub IsHere : List ℕ → List ℕ → Type 0
 IsHere folder place = (is_relative folder ≡ true) × (place ≡ codes ".")
 
+-- a folder in which it is looked for the file of its module
+abbrev pub IsLookedAt : List ℕ → List ℕ → Type 0
+IsLookedAt folder place = IsAbove folder place ⊎ IsHere folder place
+
+-- such a file
+abbrev pub IsModuleFileOf : List ℕ → List ℕ → Type 0
+IsModuleFileOf folder name = (place : List ℕ) × IsLookedAt folder place × (name ≡ module_file place)
+
 -- The path of its module: what such a file there or above says, or nothing. That it is the nearest one, and that there
 -- is none where nothing is said, no contract can say: which files are not there is the system's.
 abbrev pub IsModulePath : List ℕ → List ℕ → Type 0
 IsModulePath folder path =
-    (path ≡ []) ⊎ ((place : List ℕ) × (IsAbove folder place ⊎ IsHere folder place) × IsSaidIn place path)
+    (path ≡ []) ⊎ ((place : List ℕ) × IsLookedAt folder place × IsSaidIn place path)

@@ -1,6 +1,6 @@
 //! What can go wrong outside the judgement.
 
-ghost use Rattle.std.specs.Prelude.{◌≡◌, ◌≢◌};
+ghost use Rattle.std.specs.Prelude.{◌≡◌, ◌⊎◌, ◌≢◌};
 ghost use Rattle.std.specs.IoError.{error_kind};
 
 use std::alloc::{AllocError, AllocFailed};
@@ -71,6 +71,9 @@ pub enum Fault {
     /// The go command could not load the package of this path, or one below it, and says so in its list. Escaped.
     #[error("package list is incomplete: {0}")]
     ListIncomplete(String),
+    /// There is no package in the list.
+    #[error("package list is empty")]
+    ListIsEmpty,
     /// The file of a unit is not UTF-8, or no JSON.
     #[error("the .cfg file is not JSON: pass the file that go vet, or a build rule, wrote for ctxvet")]
     UnitNotJson,
@@ -137,6 +140,7 @@ impl<T: Drop> From<AllocFailed<T>> for Fault {
 pub fn reading(error: &io::Error, name: String) -> Fault
     ensures memory { error_kind error.now ≡ ErrorKind.OutOfMemory → result ≡ Fault.OutOfMemory }
     ensures other { error_kind error.now ≢ ErrorKind.OutOfMemory → result ≡ Fault.CannotRead name }
+    ensures either { (result ≡ Fault.OutOfMemory) ⊎ (result ≡ Fault.CannotRead name) }
 {
     if error.kind() == ErrorKind::OutOfMemory {
         Fault::OutOfMemory

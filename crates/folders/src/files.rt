@@ -2,9 +2,9 @@
 
 ghost use Rattle.std.specs.Prelude.{◌≡◌, ◌↔◌, ℕ, List, ◌++◌, Contains, OnOk, option_to_list, IfErr, IfOk, IfSome, map, string_bytes, string_cmp};
 ghost use Rattle.std.specs.List.Sorted.{IsStrictlySortedBy};
-ghost use Rattle.folders.specs.GoFiles.{is_go_file, slash_after, source_name, AreGoNames, AreSourcesOf};
+ghost use Rattle.folders.specs.GoFiles.{is_go_file, slash_after, source_name, AreGoNames, AreSourcesOf, IsOfFolder};
 ghost use Rattle.folders.specs.Names.{IsPrintable};
-ghost use Rattle.folders.specs.ReadFaults.{IsReadFault};
+ghost use Rattle.folders.specs.ReadFaults.{IsReadFaultOf};
 
 use crate::fault::{self, Fault};
 use crate::names::{escaped, is_printable};
@@ -55,7 +55,7 @@ pub(crate) fn slash_after(folder: &str) -> &'static str
 /// The folder can't be listed, a file can't be read, or memory was refused.
 pub fn read_folder<R: Files + AllocGlobal>(rt: &R, folder: &str) -> Result<Vec<Source>, Fault>
     ensures sources { IfOk result (λ sources. AreSourcesOf folder.now sources.items) }
-    ensures fault { IfErr result IsReadFault }
+    ensures fault { IfErr result (IsReadFaultOf (IsOfFolder folder.now)) }
 {
     let names = go_names(rt, folder)?;
     let mut sources = Vec::new(rt.alloc());
@@ -81,7 +81,7 @@ fn go_names<R: Files + AllocGlobal>(rt: &R, folder: &str) -> Result<Vec<String>,
     ensures ascend { IfOk result (λ names. IsStrictlySortedBy string_cmp names.items) }
     ensures go { IfOk result (λ names. AreGoNames names.items) }
     ensures folder { IfOk result (λ _. IsPrintable folder.now) }
-    ensures fault { IfErr result IsReadFault }
+    ensures fault { IfErr result (IsReadFaultOf (λ name. name ≡ folder.now)) }
 {
     match list_names(rt, folder) {
         Ok(names) => Ok(in_order(names)),
@@ -143,7 +143,7 @@ fn keep_name(names: &mut Vec<String>, alloc: Global, name: &[u8]) -> io::Result<
 /// The file of this name, or `None` where it is a folder.
 fn read_source<R: Files + AllocGlobal>(rt: &R, name: String) -> Result<Option<Source>, Fault>
     ensures source { IfOk result (λ read. IfSome read (λ source. source.name ≡ name)) }
-    ensures fault { IfErr result IsReadFault }
+    ensures fault { IfErr result (IsReadFaultOf (λ told. told ≡ string_bytes name)) }
 {
     match read_bytes(rt, name.as_str()) {
         Ok(Some(bytes)) => Ok(Some(Source { name, bytes })),

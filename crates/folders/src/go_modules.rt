@@ -3,8 +3,8 @@
 ghost use Rattle.std.specs.Prelude.{◌≡◌, ◌≤◌, ◌<◌, ◌-◌, IfErr, IfOk, IfSome, IsTrue, length, option_map, string_bytes};
 ghost use Rattle.std.specs.List.{after_first, before_first, position_or_len};
 ghost use Rattle.folders.specs.CutLines.{stops};
-ghost use Rattle.folders.specs.GoModules.{behind_word, first_word, is_between, is_quoted, is_relative, module_in, module_of, path_in, IsAbove, IsModulePath, IsSaidIn};
-ghost use Rattle.folders.specs.ReadFaults.{IsReadFault};
+ghost use Rattle.folders.specs.GoModules.{behind_word, first_word, is_between, is_quoted, is_relative, module_file, module_in, module_of, path_in, IsAbove, IsModuleFileOf, IsModulePath, IsSaidIn};
+ghost use Rattle.folders.specs.ReadFaults.{IsReadFaultOf};
 ghost use Rattle.folders.specs.ReadFiles.{bytes_read, name_read};
 
 use crate::fault::{self, Fault};
@@ -29,7 +29,7 @@ const CURRENT_FOLDER: &str = ".";
 /// That file can't be read, or its path is not UTF-8; or memory was refused.
 pub fn module_above<R: Files + AllocGlobal>(rt: &R, folder: &str) -> Result<String, Fault>
     ensures module { IfOk result (λ path. IsModulePath folder.now (string_bytes path)) }
-    ensures fault { IfErr result IsReadFault }
+    ensures fault { IfErr result (IsReadFaultOf (IsModuleFileOf folder.now)) }
 {
     let mut left = Some(folder);
     'places: while let Some(place) = left {
@@ -44,7 +44,7 @@ pub fn module_above<R: Files + AllocGlobal>(rt: &R, folder: &str) -> Result<Stri
 /// The path that the file of the current folder says, where the name of this one is relative; else an empty text.
 fn module_here<R: Files + AllocGlobal>(rt: &R, folder: &str) -> Result<String, Fault>
     ensures module { IfOk result (λ path. IsModulePath folder.now (string_bytes path)) }
-    ensures fault { IfErr result IsReadFault }
+    ensures fault { IfErr result (IsReadFaultOf (IsModuleFileOf folder.now)) }
 {
     if !is_relative(folder) {
         return Ok(String::new(rt.alloc()));
@@ -65,7 +65,7 @@ fn is_relative(folder: &str) -> bool
 /// The path that the file of this folder says, if the file is there.
 fn module_at<R: Files + AllocGlobal>(rt: &R, place: &str) -> Result<Option<String>, Fault>
     ensures said { IfOk result (λ said. IfSome said (λ path. IsSaidIn place.now (string_bytes path))) }
-    ensures fault { IfErr result IsReadFault }
+    ensures fault { IfErr result (IsReadFaultOf (λ name. name ≡ module_file place.now)) }
 {
     let name = source_name(rt.alloc(), place, MODULE_FILE)?;
     match read_if_there(rt, name.as_str())? {
@@ -89,7 +89,7 @@ fn read_if_there<'a, R: Files + AllocGlobal>(
     name: &'a str,
 ) -> Result<Option<ReadFile<'a>>, Fault>
     ensures read { IfOk result (λ read. IfSome read (λ file. name_read file ≡ name.now)) }
-    ensures fault { IfErr result IsReadFault }
+    ensures fault { IfErr result (IsReadFaultOf (λ told. told ≡ name.now)) }
 {
     match fs::metadata(rt, name) {
         Ok(stands) if stands.is_file() => Ok(Some(read_file(rt, name)?)),
@@ -105,7 +105,7 @@ fn read_if_there<'a, R: Files + AllocGlobal>(
 /// The path that the file says.
 fn path_said<R: Files + AllocGlobal>(rt: &R, file: &ReadFile) -> Result<String, Fault>
     ensures path { IfOk result (λ path. string_bytes path ≡ module_in (bytes_read file.now)) }
-    ensures fault { IfErr result IsReadFault }
+    ensures fault { IfErr result (IsReadFaultOf (λ name. name ≡ name_read file.now)) }
 {
     match str::from_utf8(module_in(file.bytes())) {
         Ok(path) => Ok(String::from_str(rt.alloc(), path)?),

@@ -18,7 +18,7 @@ pub use go_modules::module_above;
 pub use listed::{read_files, shown_name};
 pub use names::{escaped, is_printable, push_escaped};
 pub use package::split_word;
-pub use surroundings::{Surroundings, current_folder, own_file, read_file_or_input};
+pub use surroundings::{Surroundings, current_folder, named_folder, own_file, read_file_or_input};
 pub use unit_files::{folder_of, picked_files};
 pub use whole_files::{
     Reach, ReadFile, UnwrittenFile, WrittenFile, read_file, write_file, write_file_without_sync,

@@ -1,9 +1,9 @@
 //! Files that are given by their names, as a list of packages has them.
 
-ghost use Rattle.std.specs.Prelude.{◌≡◌, IfErr, IfOk, map, option_map, string_bytes};
+ghost use Rattle.std.specs.Prelude.{◌≡◌, Contains, IfErr, IfOk, map, option_map, string_bytes};
 ghost use Rattle.folders.specs.ListedFiles.{behind, below, given_name, inside, is_relative, shown_name, AreFilesOf};
 ghost use Rattle.folders.specs.Names.{IsPrintable};
-ghost use Rattle.folders.specs.ReadFaults.{IsReadFault};
+ghost use Rattle.folders.specs.ReadFaults.{IsReadFaultOf};
 
 use crate::fault::{self, Fault};
 use crate::files::{in_order, read_bytes, slash_after, source_name};
@@ -85,7 +85,7 @@ pub fn shown_name(
 fn read_named<R: Files + AllocGlobal>(rt: &R, name: String) -> Result<Source, Fault>
     ensures named { IfOk result (λ source. source.name ≡ name) }
     ensures printable { IfOk result (λ source. IsPrintable (string_bytes source.name)) }
-    ensures fault { IfErr result IsReadFault }
+    ensures fault { IfErr result (IsReadFaultOf (λ told. told ≡ string_bytes name)) }
 {
     if !is_printable(name.as_str().as_bytes()) {
         return Err(Fault::CannotRead(escaped(rt.alloc(), name.as_str())?));
@@ -105,7 +105,7 @@ fn read_named<R: Files + AllocGlobal>(rt: &R, name: String) -> Result<Source, Fa
 /// A file can't be read, or memory was refused.
 pub fn read_files<R: Files + AllocGlobal>(rt: &R, names: Vec<String>) -> Result<Vec<Source>, Fault>
     ensures files { IfOk result (λ sources. AreFilesOf (map string_bytes names.items) sources.items) }
-    ensures fault { IfErr result IsReadFault }
+    ensures fault { IfErr result (IsReadFaultOf (Contains (map string_bytes names.items))) }
 {
     let names = in_order(names);
     let mut sources = Vec::new(rt.alloc());

@@ -1,7 +1,7 @@
 //! Names that a line can hold.
 
 ghost use Rattle.std.specs.Prelude.{◌≡◌, ◌↔◌, IfOk, IsTrue, string_bytes};
-ghost use Rattle.folders.specs.Names.{IsPrintable};
+ghost use Rattle.folders.specs.Names.{IsNameIn, IsPrintable};
 
 use std::alloc::{AllocError, Global};
 
@@ -40,7 +40,7 @@ pub fn push_escaped(line: &mut String, text: &str) -> Result<(), AllocError> {
 ///
 /// Memory was refused.
 pub fn escaped(alloc: Global, text: &str) -> Result<String, AllocError>
-    ensures { IfOk result (λ line. IsPrintable text.now → string_bytes line ≡ text.now) }
+    ensures { IfOk result (λ line. IsNameIn text.now (string_bytes line)) }
 {
     if is_printable(text.as_bytes()) {
         return String::from_str(alloc, text);

@@ -1,14 +1,15 @@
 //! What a run takes of the process that it runs in, beside files.
 
-ghost use Rattle.std.specs.Prelude.{◌≡◌, IfErr, IfOk};
-ghost use Rattle.folders.specs.ReadFaults.{IsReadFault};
-ghost use Rattle.folders.specs.ReadFiles.{name_read};
+ghost use Rattle.std.specs.Prelude.{◌≡◌, IfErr, IfOk, codes};
+ghost use Rattle.folders.specs.ReadFaults.{IsReadFaultOf};
+ghost use Rattle.folders.specs.ReadFiles.{input_name, name_read};
 ghost use Rattle.folders.specs.declared.fault.Fault.TheVariants.{OutOfMemory};
 
 use crate::fault::{self, Fault};
 use crate::whole_files::{ReadFile, read_file, read_stream};
-use std::alloc::Global;
-use std::env;
+use std::alloc::{AllocError, Global};
+use std::env::{self, VarError};
+use std::fs;
 use std::io::{self, ErrorKind, Read, Stdin};
 use std::rt::Files;
 
@@ -24,6 +25,14 @@ pub trait Surroundings {
     ///
     /// The system doesn't tell it, it is not UTF-8, or memory was refused.
     fn current_folder(&self, alloc: Global) -> io::Result<String>;
+
+    /// The absolute name that the environment has of the current folder, as `PWD`, where it leads to that folder. It
+    /// may go through links.
+    ///
+    /// # Errors
+    ///
+    /// The system doesn't tell where it leads, or memory was refused.
+    fn named_folder(&self, alloc: Global) -> io::Result<Option<String>>;
 
     /// The absolute name of the program's own file.
     ///
@@ -42,6 +51,21 @@ impl Surroundings for HostRuntime {
 
     fn current_folder(&self, _alloc: Global) -> io::Result<String> {
         Ok(env::current_dir(self)?.into_string())
+    }
+
+    fn named_folder(&self, _alloc: Global) -> io::Result<Option<String>> {
+        let named = match env::var(self, "PWD") {
+            Ok(named) => named,
+            Err(VarError::OutOfMemory) => return Err(io::Error::from(AllocError)),
+            Err(_) => return Ok(None),
+        };
+        if !named.starts_with("/") {
+            return Ok(None);
+        }
+        let leads = fs::canonicalize(self, named.as_str())?;
+        let here = env::current_dir(self)?;
+        let is_here = leads.as_path().as_str() == here.as_path().as_str();
+        Ok(if is_here { Some(named) } else { None })
     }
 
     fn own_file(&self, _alloc: Global) -> io::Result<String> {
@@ -64,13 +88,28 @@ pub fn current_folder<R: AllocGlobal + Surroundings>(rt: &R) -> Result<Option<St
     }
 }
 
+/// The absolute name that the environment has of the current folder, where it leads there.
+///
+/// # Errors
+///
+/// Memory was refused.
+pub fn named_folder<R: AllocGlobal + Surroundings>(rt: &R) -> Result<Option<String>, Fault>
+    ensures { IfErr result (λ fault. fault ≡ OutOfMemory) }
+{
+    match rt.named_folder(rt.alloc()) {
+        Ok(name) => Ok(name),
+        Err(error) if error.kind() == ErrorKind::OutOfMemory => Err(Fault::OutOfMemory),
+        Err(_) => Ok(None),
+    }
+}
+
 /// The absolute name of the program's own file.
 ///
 /// # Errors
 ///
 /// The system doesn't tell it, or memory was refused.
 pub fn own_file<R: AllocGlobal + Surroundings>(rt: &R) -> Result<String, Fault>
-    ensures { IfErr result IsReadFault }
+    ensures { IfErr result (IsReadFaultOf (λ name. name ≡ codes "the program's own file")) }
 {
     match rt.own_file(rt.alloc()) {
         Ok(name) => Ok(name),
@@ -94,7 +133,7 @@ pub fn read_file_or_input<'a, R: Files + AllocGlobal + Surroundings>(
     name: &'a str,
 ) -> Result<ReadFile<'a>, Fault>
     ensures read { IfOk result (λ file. name_read file ≡ name.now) }
-    ensures fault { IfErr result IsReadFault }
+    ensures fault { IfErr result (IsReadFaultOf (λ told. told ≡ input_name name.now)) }
 {
     if name == STANDARD_INPUT {
         read_stream(rt.alloc(), &mut rt.standard_input(), name)

@@ -1,9 +1,10 @@
 //! Files that are read or written whole.
 
-ghost use Rattle.std.specs.Prelude.{◌≡◌, IfErr, IfOk, OnOk};
+ghost use Rattle.std.specs.Prelude.{◌≡◌, IfErr, IfOk, OnOk, codes, string_bytes};
 ghost use Rattle.std.specs.Fs.{file_type, IsFile};
 ghost use Rattle.std.specs.Io.KnownBytes.{Appends};
-ghost use Rattle.folders.specs.ReadFaults.{IsReadFault};
+ghost use Rattle.folders.specs.Names.{IsNameIn};
+ghost use Rattle.folders.specs.ReadFaults.{IsReadFaultOf};
 ghost use Rattle.folders.specs.ReadFiles.{bytes_read, name_read};
 ghost use Rattle.folders.specs.WrittenFiles.{reach_of, HoldsAll};
 
@@ -46,7 +47,7 @@ impl<'a> ReadFile<'a> {
 /// The file can't be read, or memory was refused.
 pub fn read_file<'a, R: Files + AllocGlobal>(rt: &R, name: &'a str) -> Result<ReadFile<'a>, Fault>
     ensures read { IfOk result (λ file. name_read file ≡ name.now) }
-    ensures fault { IfErr result IsReadFault }
+    ensures fault { IfErr result (IsReadFaultOf (λ told. told ≡ name.now)) }
 {
     match fs::read(rt, name) {
         Ok(bytes) => Ok(ReadFile { name, bytes }),
@@ -68,7 +69,7 @@ pub(crate) fn read_stream<'a, I: Read>(
     name: &'a str,
 ) -> Result<ReadFile<'a>, Fault>
     ensures read { IfOk result (λ file. name_read file ≡ name.now) }
-    ensures fault { IfErr result IsReadFault }
+    ensures fault { IfErr result (IsReadFaultOf (λ told. told ≡ codes "standard input")) }
 {
     let mut bytes = Vec::new(alloc);
     match input.read_to_end(&mut bytes) {
@@ -94,7 +95,8 @@ impl<'a> UnwrittenFile<'a> {
     ///
     /// Memory was refused.
     pub fn named(alloc: Global, name: &'a str) -> Result<UnwrittenFile<'a>, AllocError>
-        ensures { IfOk result (λ file. file.name.now ≡ name.now) }
+        ensures name { IfOk result (λ file. file.name.now ≡ name.now) }
+        ensures told { IfOk result (λ file. IsNameIn name.now (string_bytes file.escaped)) }
     {
         let escaped = escaped(alloc, name)?;
         Ok(UnwrittenFile { name, escaped })

@@ -6,17 +6,11 @@ use Rattle.std.specs.List.{list_all, list_any}
 use Rattle.std.specs.Str.{bytes_eq}
 use Rattle.std.proofs.lemmas.Option.{none-some, same_Some}
 use Rattle.imports.specs.Ranks.{Package, Imports, HasRank}
-use Rattle.lexer.specs.declared.fault.LexFault.{LexFault}
-use Rattle.lexer.specs.declared.fault.LexFault.TheVariants as lex_fault
-use Rattle.lexer.proofs.Outcomes.{one_outcome, one_fault}
-use Rattle.report.specs.declared.codes.TextFault.{TextFault}
-use Rattle.report.specs.declared.codes.TextFault.TheVariants.{NotUtf8, Nul, UnclosedString, UnclosedComment, UnclosedRune, UnknownCharacter, TooLong}
-use Rattle.tree_reader.proofs.OneTree.{one_tree}
-use Rattle.load.specs.Readings.{IsFaultAt, IsReadingOf}
-use Rattle.judge.proofs.OneLoad.{HasTreeFault}
+use Rattle.judge.proofs.OneLoad.{HasTreeFault, one_reading}
 use Rattle.lexer.specs.declared.source.Source.{Source}
 use Rattle.load.proofs.OneOrder.{by_name_is_one}
-use Rattle.load.specs.GivenPackages.{PathAndFiles, AreLoaded}
+use Rattle.load.specs.GivenPackages.{PathAndFiles, paths_of, AreLoaded}
+use Rattle.load.specs.MeantPaths.{MeantPath}
 use Rattle.load.specs.Readings.{AreReadingsOf, IsLoadedAs}
 use Rattle.meaning.specs.Declarations.{declaration_of_use}
 use Rattle.meaning.specs.FunctionFacts.{package_facts}
@@ -39,53 +33,6 @@ use Rattle.verifier.specs.Verified.{AreClaimed, AreGivenCredits, IsSaid}
 use Rattle.whole_packages.specs.declared.loaded_package.LoadedPackage.{LoadedPackage as KeptPackage}
 
 -- Files
-
-abbrev kind_of : LexFault → TextFault
-kind_of (lex_fault.NotUtf8 at) = NotUtf8
-kind_of (lex_fault.Nul at) = Nul
-kind_of (lex_fault.UnclosedString at) = UnclosedString
-kind_of (lex_fault.UnclosedComment at) = UnclosedComment
-kind_of (lex_fault.UnclosedRune at) = UnclosedRune
-kind_of (lex_fault.UnknownCharacter at) = UnknownCharacter
-kind_of lex_fault.TooLong = TooLong
-kind_of lex_fault.OutOfMemory = TooLong
-
-abbrev offset_of : LexFault → ℕ
-offset_of (lex_fault.NotUtf8 at) = at
-offset_of (lex_fault.Nul at) = at
-offset_of (lex_fault.UnclosedString at) = at
-offset_of (lex_fault.UnclosedComment at) = at
-offset_of (lex_fault.UnclosedRune at) = at
-offset_of (lex_fault.UnknownCharacter at) = at
-offset_of lex_fault.TooLong = 0
-offset_of lex_fault.OutOfMemory = 0
-
-told : (f : LexFault) (at : ℕ) (why : TextFault) → IsFaultAt f at why → (kind_of f ≡ why) × (offset_of f ≡ at)
-told f at NotUtf8 h = (ap kind_of h.fault_there, ap offset_of h.fault_there)
-told f at Nul h = (ap kind_of h.fault_there, ap offset_of h.fault_there)
-told f at UnclosedString h = (ap kind_of h.fault_there, ap offset_of h.fault_there)
-told f at UnclosedComment h = (ap kind_of h.fault_there, ap offset_of h.fault_there)
-told f at UnclosedRune h = (ap kind_of h.fault_there, ap offset_of h.fault_there)
-told f at UnknownCharacter h = (ap kind_of h.fault_there, ap offset_of h.fault_there)
-told f at TooLong h = (ap kind_of h.fault_there, ap offset_of h.fault_there ∙ sym (h.at_start refl))
-
-one_reading : (edition : Edition) (text : List ℕ) (r s : Reading) → IsReadingOf edition text r → IsReadingOf edition text s
-    → (r ≡ s) ⊎ (HasTreeFault r × HasTreeFault s)
-one_reading edition text (has_tree t) (has_tree u) h k = inl (ap has_tree (one_tree edition text t u h k))
-one_reading edition text (has_tree t) (has_text_fault at why) h k = absurd (one_outcome text h.tokens k.0 h.cut k.1)
-one_reading edition text (has_tree t) (has_tree_fault at why) h k = absurd (k.no_tree t h)
-one_reading edition text (has_text_fault at why) (has_tree u) h k = absurd (one_outcome text k.tokens h.0 k.cut h.1)
-one_reading edition text (has_text_fault at why) (has_text_fault place reason) h k =
-    let same = one_fault text h.0 k.0 h.1 k.1 in
-    let one = told h.0 at why h.2 in
-    let other = told k.0 place reason k.2 in
-    let kind = sym one.0 ∙ (ap kind_of same ∙ other.0) in
-    let offset = sym one.1 ∙ (ap offset_of same ∙ other.1) in
-    inl (λ i. has_text_fault (offset i) (kind i))
-one_reading edition text (has_text_fault at why) (has_tree_fault place reason) h k = absurd (one_outcome text k.tokens h.0 k.cut h.1)
-one_reading edition text (has_tree_fault at why) (has_tree u) h k = absurd (h.no_tree u k)
-one_reading edition text (has_tree_fault at why) (has_text_fault place reason) h k = absurd (one_outcome text h.tokens k.0 h.cut k.1)
-one_reading edition text (has_tree_fault at why) (has_tree_fault place reason) h k = inr (tt, tt)
 
 -- the same became of the file, or both times it has no tree
 abbrev IsLikeReading : Reading → Reading → Type 0
@@ -137,16 +84,17 @@ same_trees n [] (s ∷ ss) h = absurd h
 same_trees n (r ∷ rs) [] h = absurd h
 same_trees n (r ∷ rs) (s ∷ ss) h = rest_same n r rs ss (same_trees (n + 1) rs ss h.1) ∙ first_same n r s ss h.0
 
-like_readings : (edition : Edition) (sources : List Source) (rs ss : List Reading) → AreReadingsOf edition sources rs
-    → AreReadingsOf edition sources ss
+like_readings : (edition : Edition) (paths : List MeantPath) (sources : List Source) (rs ss : List Reading)
+    → AreReadingsOf edition paths sources rs
+    → AreReadingsOf edition paths sources ss
     → AreLike rs ss
-like_readings edition [] [] [] h k = tt
-like_readings edition [] [] (s ∷ ss) h k = absurd k
-like_readings edition [] (r ∷ rs) ss h k = absurd h
-like_readings edition (x ∷ xs) [] ss h k = absurd h
-like_readings edition (x ∷ xs) (r ∷ rs) [] h k = absurd k
-like_readings edition (x ∷ xs) (r ∷ rs) (s ∷ ss) h k =
-    (one_reading edition x.bytes.items r s h.0 k.0, like_readings edition xs rs ss h.1 k.1)
+like_readings edition paths [] [] [] h k = tt
+like_readings edition paths [] [] (s ∷ ss) h k = absurd k
+like_readings edition paths [] (r ∷ rs) ss h k = absurd h
+like_readings edition paths (x ∷ xs) [] ss h k = absurd h
+like_readings edition paths (x ∷ xs) (r ∷ rs) [] h k = absurd k
+like_readings edition paths (x ∷ xs) (r ∷ rs) (s ∷ ss) h k =
+    (one_reading edition paths x.bytes.items r s h.0 k.0, like_readings edition paths xs rs ss h.1 k.1)
 
 -- Packages
 
@@ -175,18 +123,19 @@ turned_packages [] (q ∷ qs) h = absurd h
 turned_packages (p ∷ ps) [] h = absurd h
 turned_packages (p ∷ ps) (q ∷ qs) h = (turned_package p q h.0, turned_packages ps qs h.1)
 
-like_package : (edition : Edition) (path : List ℕ) (sources : List Source) (p q : LoadedPackage) (k l : KeptPackage)
-    → IsLoadedAs edition path sources p k
-    → IsLoadedAs edition path sources q l
+like_package : (edition : Edition) (path : List ℕ) (paths : List MeantPath) (sources : List Source)
+    (p q : LoadedPackage) (k l : KeptPackage)
+    → IsLoadedAs edition path paths sources p k
+    → IsLoadedAs edition path paths sources q l
     → IsLike p q
-like_package edition path sources p q k l h m =
+like_package edition path paths sources p q k l h m =
     let same : k.sources.items ≡ l.sources.items =
     by_name_is_one sources k.sources.items l.sources.items h.by_name m.by_name in
     record {
       is_path = h.is_path ∙ sym m.is_path;
       is_edition = h.is_edition ∙ sym m.is_edition;
-      are_files = like_readings edition k.sources.items p.files q.files h.are_files
-          (subst (λ (s : List Source). AreReadingsOf edition s q.files) (sym same) m.are_files);
+      are_files = like_readings edition paths k.sources.items p.files q.files h.are_files
+          (subst (λ (s : List Source). AreReadingsOf edition paths s q.files) (sym same) m.are_files);
     }
 
 pub loaded_alike : (es : List PathAndFiles) (ps qs : List LoadedPackage) (ks ls : List KeptPackage)
@@ -200,8 +149,10 @@ loaded_alike (e ∷ es) [] qs ks ls h m = absurd h
 loaded_alike (e ∷ es) (p ∷ ps) [] ks ls h m = absurd m
 loaded_alike (e ∷ es) (p ∷ ps) (q ∷ qs) [] ls h m = absurd h
 loaded_alike (e ∷ es) (p ∷ ps) (q ∷ qs) (k ∷ ks) [] h m = absurd m
-loaded_alike (e ∷ es) (p ∷ ps) (q ∷ qs) (k ∷ ks) (l ∷ ls) h m =
-    (like_package e.1.0 (string_bytes e.0) e.1.1.items p q k l h.0 m.0, loaded_alike es ps qs ks ls h.1 m.1)
+loaded_alike (e ∷ es) (p ∷ ps) (q ∷ qs) (k ∷ ks) (l ∷ ls) h m = (
+  like_package e.1.edition (string_bytes e.0) (paths_of e.1.imports) e.1.sources.items p q k l h.0 m.0,
+  loaded_alike es ps qs ks ls h.1 m.1,
+)
 
 pub package_there : (ps qs : List LoadedPackage) → AreAlike ps qs → (i : ℕ) (p : LoadedPackage) → slice_get ps i ≡ Some p
     → (q : LoadedPackage) × (slice_get qs i ≡ Some q) × IsLike p q

@@ -1,6 +1,6 @@
 -- A function in the tree of a text has fewer parameters than the text has bytes: each takes a token, and a text has no more
 -- tokens than bytes, but for a semicolon at its end. So the position of each of them can be written.
-use Rattle.std.proofs.Common.{◌≡◌, ℕ, suc, ◌+◌, ◌<◌, ◌≤◌, ◌-◌, ◌^◌, ◌⊎◌, inl, inr, Bool, true, false, ◌&&◌, ◌||◌, List, [], ◌∷◌, ◌++◌, length, drop, Option, Some, None, Contains, refl, ap, ◌∙◌, subst, arith}
+use Rattle.std.proofs.Common.{◌≡◌, ℕ, suc, ◌+◌, ◌<◌, ◌≤◌, ◌-◌, ◌^◌, ◌⊎◌, inl, inr, Bool, true, false, ◌&&◌, ◌||◌, List, [], ◌∷◌, ◌++◌, length, drop, Option, Some, None, Contains, refl, sym, ap, ◌∙◌, subst, arith}
 use Rattle.std.specs.Prelude.{◌==◌, if◌then◌else◌}
 use Rattle.std.specs.List.{list_any}
 use Rattle.std.specs.Str.{bytes_eq}
@@ -23,6 +23,7 @@ use Rattle.meaning.specs.Grammar.{before_item, after_items, IsSecond, IsNoMethod
 use Rattle.meaning.specs.OuterBlocks.{can_be_meant, or_else}
 use Rattle.meaning.specs.TreeOfText.{first_place, IsTreeOf}
 use Rattle.meaning.specs.Uses.{has_kind_at}
+use Rattle.meaning_reports.specs.MeantImports.{IsTreeButForImports}
 use Rattle.tree.specs.declared.edition.Edition.{Edition}
 use Rattle.tree.specs.declared.edition.Edition.TheVariants.{First, Second}
 use Rattle.tree.specs.Syntax.{Identifier, Block, Parameters, no_parameter, named_and, unnamed_and, name_alone_and, Signature, signature_of, Function, TopLevelDeclaration, function_declaration, general_declaration, ImportSpec, ImportDeclaration, SourceFile}
@@ -211,14 +212,21 @@ few_tokens text tokens t =
     let all = few_from (drop (mark_size text) text) t.pieces (mark_size text) None t.cut in
     omega (arith, ap length t.listed, left, all)
 
-few_parameters : (edition : Edition) (text : List ℕ) (tree : SourceFile) → IsTreeOf edition text tree
+few_written : (edition : Edition) (text : List ℕ) (tree : SourceFile) → IsTreeOf edition text tree
     → (f : Function) → Contains tree.declarations (function_declaration f)
     → length (parameters_of f.signature) < 2 ^ 32
-few_parameters edition text tree is f h =
+few_written edition text tree is f h =
     let few = few_of_file (read_in edition text) tree (first_place is.tokens) is.last is.spelled f h in
     let tokens = few_tokens text is.tokens is.cut in
     let small = is.cut.small in
     omega (arith, few, tokens, small)
+
+few_parameters : (edition : Edition) (text : List ℕ) (tree : SourceFile) → IsTreeButForImports edition text tree
+    → (f : Function) → Contains tree.declarations (function_declaration f)
+    → length (parameters_of f.signature) < 2 ^ 32
+few_parameters edition text tree is f h =
+    few_written edition text is.written is.is_tree f
+    (subst (λ (file : SourceFile). Contains file.declarations (function_declaration f)) (sym is.same) h)
 
 -- Positions
 
@@ -281,7 +289,7 @@ few_in edition means name (function_declaration g ∷ ds) facts few e =
 
 pub positions_fit : (edition : Edition) (means : ℕ → Meanings) (name : List ℕ) (n : ℕ) (trees : List SourceFile)
     (facts : FunctionFacts)
-    → ((tree : SourceFile) → Contains trees tree → (text : List ℕ) × IsTreeOf edition text tree)
+    → ((tree : SourceFile) → Contains trees tree → (text : List ℕ) × IsTreeButForImports edition text tree)
     → facts_from edition means name n trees ≡ Some facts
     → KnowsFew facts
 positions_fit edition means name n [] facts texts e = absurd (none-some facts e)

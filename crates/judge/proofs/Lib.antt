@@ -2,6 +2,7 @@ pub mod QuietYes
 pub mod LoadedPackages
 pub mod SourcePlaces
 mod Loads
+mod NotGivenPaths
 mod WorkersFaults
 mod SameTexts
 pub mod OneLoad

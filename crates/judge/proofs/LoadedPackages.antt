@@ -4,7 +4,7 @@ use Rattle.std.specs.Prelude.{slice_get, string_bytes}
 use Rattle.meaning_reports.specs.Loaded.{LoadedPackage}
 use Rattle.meaning.proofs.Membership.{contains_here, contains_there}
 use Rattle.whole_packages.specs.declared.loaded_package.LoadedPackage.{LoadedPackage as KeptPackage}
-use Rattle.load.specs.GivenPackages.{PathAndFiles, AreLoaded}
+use Rattle.load.specs.GivenPackages.{PathAndFiles, paths_of, AreLoaded}
 use Rattle.load.specs.Readings.{IsLoadedAs}
 
 pub are_as_many : (es : List PathAndFiles) (ps : List LoadedPackage) (ks : List KeptPackage) → AreLoaded es ps ks
@@ -20,7 +20,7 @@ are_as_many (e ∷ es) (p ∷ ps) (k ∷ ks) h = ap suc (are_as_many es ps ks h.
 pub record IsLoadedOf (es : List PathAndFiles) (p : LoadedPackage) (k : KeptPackage) : Type 0 where
   pub of : PathAndFiles
   pub is_given : Contains es of
-  pub loaded : IsLoadedAs of.1.0 (string_bytes of.0) of.1.1.items p k
+  pub loaded : IsLoadedAs of.1.edition (string_bytes of.0) (paths_of of.1.imports) of.1.sources.items p k
 
 no_package : {p : LoadedPackage} (n : ℕ) → slice_get {X = LoadedPackage} [] n ≡ Some p → ⊥
 no_package zero e = cc
@@ -42,8 +42,8 @@ each_loaded (e ∷ es) (p ∷ ps) (k ∷ ks) h zero q m is_p is_k =
     record {
       of = e;
       is_given = contains_here e es;
-      loaded = subst (λ x. IsLoadedAs e.1.0 (string_bytes e.0) e.1.1.items x m) same
-          (subst (IsLoadedAs e.1.0 (string_bytes e.0) e.1.1.items p) kept h.0);
+      loaded = subst (λ x. IsLoadedAs e.1.edition (string_bytes e.0) (paths_of e.1.imports) e.1.sources.items x m) same
+          (subst (IsLoadedAs e.1.edition (string_bytes e.0) (paths_of e.1.imports) e.1.sources.items p) kept h.0);
     }
 each_loaded (e ∷ es) (p ∷ ps) (k ∷ ks) h (suc i) q m is_p is_k =
     let w = each_loaded es ps ks h.1 i q m is_p is_k in

@@ -23,7 +23,9 @@ use Rattle.meaning_reports.specs.Loaded.{Reading, has_tree, has_text_fault, has_
 use Rattle.meaning_reports.proofs.EntryOrder.{AreInOrder, one_list}
 use Rattle.whole_packages.specs.declared.loaded_package.LoadedPackage.{LoadedPackage as KeptPackage}
 use Rattle.whole_packages.specs.LoadedViews.{HaveDistinctPaths}
-use Rattle.load.specs.GivenPackages.{Text, PathAndFiles, AreLoaded, IsLoadOf}
+use Rattle.meaning_reports.specs.MeantImports.{with_meant_imports}
+use Rattle.load.specs.GivenPackages.{Text, PathAndFiles, paths_of, AreLoaded, IsLoadOf}
+use Rattle.load.specs.MeantPaths.{MeantPath, meant_path}
 use Rattle.load.specs.Readings.{IsFaultAt, IsReadingOf, AreReadingsOf, IsLoadedAs}
 use Rattle.load.proofs.OneOrder.{In, rest_sorted, least, by_name_is_one}
 
@@ -152,23 +154,29 @@ HasTreeFault (has_tree tree) = ⊥
 HasTreeFault (has_text_fault at why) = ⊥
 HasTreeFault (has_tree_fault at why) = Unit {0}
 
-one_reading : (edition : Edition) (text : List ℕ) (r s : Reading) → IsReadingOf edition text r → IsReadingOf edition text s
+pub one_reading : (edition : Edition) (paths : List MeantPath) (text : List ℕ) (r s : Reading)
+    → IsReadingOf edition paths text r
+    → IsReadingOf edition paths text s
     → (r ≡ s) ⊎ (HasTreeFault r × HasTreeFault s)
-one_reading edition text (has_tree t) (has_tree u) h k = inl (ap has_tree (one_tree edition text t u h k))
-one_reading edition text (has_tree t) (has_text_fault at why) h k = absurd (one_outcome text h.tokens k.0 h.cut k.1)
-one_reading edition text (has_tree t) (has_tree_fault at why) h k = absurd (k.no_tree t h)
-one_reading edition text (has_text_fault at why) (has_tree u) h k = absurd (one_outcome text k.tokens h.0 k.cut h.1)
-one_reading edition text (has_text_fault at why) (has_text_fault place reason) h k =
+one_reading edition paths text (has_tree t) (has_tree u) h k =
+    let one = one_tree edition text h.written k.written h.is_tree k.is_tree in
+    inl (ap has_tree (sym h.same ∙ (ap (with_meant_imports (meant_path edition paths)) one ∙ k.same)))
+one_reading edition paths text (has_tree t) (has_text_fault at why) h k =
+    absurd (one_outcome text h.is_tree.tokens k.0 h.is_tree.cut k.1)
+one_reading edition paths text (has_tree t) (has_tree_fault at why) h k = absurd (k.no_tree h.written h.is_tree)
+one_reading edition paths text (has_text_fault at why) (has_tree u) h k =
+    absurd (one_outcome text k.is_tree.tokens h.0 k.is_tree.cut h.1)
+one_reading edition paths text (has_text_fault at why) (has_text_fault place reason) h k =
     let same = one_fault text h.0 k.0 h.1 k.1 in
     let one = told h.0 at why h.2 in
     let other = told k.0 place reason k.2 in
     let kind = sym one.0 ∙ (ap kind_of same ∙ other.0) in
     let offset = sym one.1 ∙ (ap offset_of same ∙ other.1) in
     inl (λ i. has_text_fault (offset i) (kind i))
-one_reading edition text (has_text_fault at why) (has_tree_fault place reason) h k = absurd (one_outcome text k.tokens h.0 k.cut h.1)
-one_reading edition text (has_tree_fault at why) (has_tree u) h k = absurd (h.no_tree u k)
-one_reading edition text (has_tree_fault at why) (has_text_fault place reason) h k = absurd (one_outcome text h.tokens k.0 h.cut k.1)
-one_reading edition text (has_tree_fault at why) (has_tree_fault place reason) h k = inr (tt, tt)
+one_reading edition paths text (has_text_fault at why) (has_tree_fault place reason) h k = absurd (one_outcome text k.tokens h.0 k.cut h.1)
+one_reading edition paths text (has_tree_fault at why) (has_tree u) h k = absurd (h.no_tree k.written k.is_tree)
+one_reading edition paths text (has_tree_fault at why) (has_text_fault place reason) h k = absurd (one_outcome text h.tokens k.0 h.cut k.1)
+one_reading edition paths text (has_tree_fault at why) (has_tree_fault place reason) h k = inr (tt, tt)
 
 -- some file has tokens and no tree
 pub record HasNoTree (rs : List Reading) : Type 0 where
@@ -180,15 +188,17 @@ pub record HasNoTree (rs : List Reading) : Type 0 where
 later_file : (r : Reading) (rs : List Reading) → HasNoTree rs → HasNoTree (r ∷ rs)
 later_file r rs h = record { place = suc h.place; reading = h.reading; is_there = h.is_there; is_fault = h.is_fault }
 
-readings : (edition : Edition) (sources : List Source) (rs ss : List Reading) → AreReadingsOf edition sources rs
-    → AreReadingsOf edition sources ss
+readings : (edition : Edition) (paths : List MeantPath) (sources : List Source) (rs ss : List Reading)
+    → AreReadingsOf edition paths sources rs
+    → AreReadingsOf edition paths sources ss
     → (rs ≡ ss) ⊎ (HasNoTree rs × HasNoTree ss)
-readings edition [] [] [] h k = inl refl
-readings edition [] [] (s ∷ ss) h k = absurd k
-readings edition [] (r ∷ rs) ss h k = absurd h
-readings edition (x ∷ xs) [] ss h k = absurd h
-readings edition (x ∷ xs) (r ∷ rs) [] h k = absurd k
-readings edition (x ∷ xs) (r ∷ rs) (s ∷ ss) h k = by (one_reading edition x.bytes.items r s h.0 k.0) (readings edition xs rs ss h.1 k.1)
+readings edition paths [] [] [] h k = inl refl
+readings edition paths [] [] (s ∷ ss) h k = absurd k
+readings edition paths [] (r ∷ rs) ss h k = absurd h
+readings edition paths (x ∷ xs) [] ss h k = absurd h
+readings edition paths (x ∷ xs) (r ∷ rs) [] h k = absurd k
+readings edition paths (x ∷ xs) (r ∷ rs) (s ∷ ss) h k =
+    by (one_reading edition paths x.bytes.items r s h.0 k.0) (readings edition paths xs rs ss h.1 k.1)
   where
     by : (r ≡ s) ⊎ (HasTreeFault r × HasTreeFault s) → (rs ≡ ss) ⊎ (HasNoTree rs × HasNoTree ss)
         → ((r ∷ rs) ≡ (s ∷ ss)) ⊎ (HasNoTree (r ∷ rs) × HasNoTree (s ∷ ss))
@@ -211,14 +221,15 @@ pub record HasNoTreeIn (ps : List LoadedPackage) : Type 0 where
 later_package : (p : LoadedPackage) (ps : List LoadedPackage) → HasNoTreeIn ps → HasNoTreeIn (p ∷ ps)
 later_package p ps h = record { place = suc h.place; loaded = h.loaded; is_there = h.is_there; file = h.file }
 
-one_package : (edition : Edition) (path : List ℕ) (sources : List Source) (p q : LoadedPackage) (k l : KeptPackage)
-    → IsLoadedAs edition path sources p k
-    → IsLoadedAs edition path sources q l
+one_package : (edition : Edition) (path : List ℕ) (paths : List MeantPath) (sources : List Source)
+    (p q : LoadedPackage) (k l : KeptPackage)
+    → IsLoadedAs edition path paths sources p k
+    → IsLoadedAs edition path paths sources q l
     → (k.sources.items ≡ l.sources.items) × ((p ≡ q) ⊎ (HasNoTree p.files × HasNoTree q.files))
-one_package edition path sources p q k l h m = (
+one_package edition path paths sources p q k l h m = (
   same,
-  by (readings edition k.sources.items p.files q.files h.are_files
-      (subst (λ (s : List Source). AreReadingsOf edition s q.files) (sym same) m.are_files)),
+  by (readings edition paths k.sources.items p.files q.files h.are_files
+      (subst (λ (s : List Source). AreReadingsOf edition paths s q.files) (sym same) m.are_files)),
 )
   where
     same : k.sources.items ≡ l.sources.items
@@ -244,7 +255,7 @@ one_way (e ∷ es) (p ∷ ps) [] ks ls h m = absurd m
 one_way (e ∷ es) (p ∷ ps) (q ∷ qs) [] ls h m = absurd h
 one_way (e ∷ es) (p ∷ ps) (q ∷ qs) (k ∷ ks) [] h m = absurd m
 one_way (e ∷ es) (p ∷ ps) (q ∷ qs) (k ∷ ks) (l ∷ ls) h m =
-    by (one_package e.1.0 (string_bytes e.0) e.1.1.items p q k l h.0 m.0).1 (one_way es ps qs ks ls h.1 m.1)
+    by (one_package e.1.edition (string_bytes e.0) (paths_of e.1.imports) e.1.sources.items p q k l h.0 m.0).1 (one_way es ps qs ks ls h.1 m.1)
   where
     by : (p ≡ q) ⊎ (HasNoTree p.files × HasNoTree q.files) → (ps ≡ qs) ⊎ (HasNoTreeIn ps × HasNoTreeIn qs)
         → ((p ∷ ps) ≡ (q ∷ qs)) ⊎ (HasNoTreeIn (p ∷ ps) × HasNoTreeIn (q ∷ qs))
@@ -276,7 +287,7 @@ one_source (e ∷ es) (p ∷ ps) (q ∷ qs) (k ∷ ks) (l ∷ ls) h m zero a b i
     let first : k ≡ a = cc in
     let second : l ≡ b = cc in
     ap (λ (x : KeptPackage). x.sources.items) (sym first)
-    ∙ ((one_package e.1.0 (string_bytes e.0) e.1.1.items p q k l h.0 m.0).0
+    ∙ ((one_package e.1.edition (string_bytes e.0) (paths_of e.1.imports) e.1.sources.items p q k l h.0 m.0).0
     ∙ ap (λ (x : KeptPackage). x.sources.items) second)
 one_source (e ∷ es) (p ∷ ps) (q ∷ qs) (k ∷ ks) (l ∷ ls) h m (suc i) a b is that =
     one_source es ps qs ks ls h.1 m.1 i a b is that

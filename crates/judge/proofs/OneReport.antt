@@ -13,7 +13,7 @@ use Rattle.report.specs.Entries.{Entry, entry_of}
 use Rattle.report_formats.specs.Formats.{text_of}
 use Rattle.accepting.specs.ByBaseline.{Key, baseline_keys, key_in}
 use Rattle.accepting.specs.Findings.{FoundEntry, plain_package}
-use Rattle.accepting.specs.Found.{found_by, found_in}
+use Rattle.accepting.specs.Found.{asked_among, found_by, told_in}
 use Rattle.accepting.specs.declared.telling.Telling.{Telling}
 use Rattle.baseline_json.specs.BaselineValues.{entry_of as known_entry}
 use Rattle.baseline_json.specs.declared.baseline.BaselineFinding.{BaselineFinding}
@@ -24,7 +24,8 @@ use Rattle.meaning_reports.proofs.OneReport.{one_report}
 use Rattle.whole_packages.specs.declared.loaded_package.LoadedPackage.{LoadedPackage as KeptPackage}
 use Rattle.load.specs.declared.packages.GivenPackage.{GivenPackage}
 use Rattle.load.specs.Readings.{IsReadingOf}
-use Rattle.load.specs.GivenPackages.{PathAndFiles, entry_of as path_and_files, AreLoaded, IsLoad}
+use Rattle.load.specs.GivenPackages.{PathAndFiles, entry_of as path_and_files, paths_of, AreLoaded, IsLoad}
+use Rattle.load.specs.MeantPaths.{MeantPath}
 use Rattle.one_package.specs.declared.judged.Judged.{Judged}
 use Rattle.one_package.specs.Judgments.{table_view, said_view, says_nothing, is_yes}
 use Rattle.all_packages.specs.Reports.{report_in}
@@ -118,8 +119,9 @@ same_keys one other same =
     sym (keys_are one.baseline.now) ∙ (ap (map key_in) same.known ∙ keys_are other.baseline.now)
 
 -- what is found by two that accept the same, and what is gone
-found_too : (one other : Telling) → AcceptTheSame one other → (ps : List FoundEntry) → found_in one ps ≡ found_in other ps
-found_too one other same ps = λ i. found_by (same.wording i) (same.stale i) (same_keys one other same i) ps
+found_too : (one other : Telling) → AcceptTheSame one other → (ps : List FoundEntry) → told_in one ps ≡ told_in other ps
+found_too one other same ps =
+    λ i. found_by (same.wording i) (same.stale i) (same_keys one other same i) (asked_among (same.unasked i) ps)
 
 gone_too : (one other : Telling) → AcceptTheSame one other → (ps : List FoundEntry) → gone_in one ps ≡ gone_in other ps
 gone_too one other same ps = λ i. gone_by (same.wording i) (same.known i) ps
@@ -185,28 +187,30 @@ module _
       let long = are_as_many first_load.in_order first_load.meant first_kept first_load.are_loaded in
       let kept = there first_kept w.place (omega (arith, within, long)) in
       let own = each_loaded first_load.in_order first_load.meant first_kept first_load.are_loaded w.place w.loaded kept.0 w.is_there kept.1 in
-      let s = source_there own.of.1.0 kept.0.sources.items w.loaded.files own.loaded.are_files w.file.place w.file.reading w.file.is_there in
+      let paths = paths_of own.of.1.imports in
+      let s = source_there own.of.1.edition paths kept.0.sources.items w.loaded.files own.loaded.are_files w.file.place w.file.reading w.file.is_there in
       let among : Contains kept.0.sources.items s.0 =
       (w.file.place, slice_get_within kept.0.sources.items w.file.place s.0 s.1, get_or_from_slice_get kept.0.sources.items w.file.place s.0 s.0 s.1) in
       let by_name = own.loaded.by_name.same in
-      let its = Contains-permutation kept.0.sources.items own.of.1.1.items s.0
-      (IsPermutation-sym own.of.1.1.items kept.0.sources.items by_name) among in
+      let its = Contains-permutation kept.0.sources.items own.of.1.sources.items s.0
+      (IsPermutation-sym own.of.1.sources.items kept.0.sources.items by_name) among in
       let entry = Contains-permutation first_load.in_order (map path_and_files given) own.of
       (IsPermutation-sym (map path_and_files given) first_load.in_order first_load.same) own.is_given in
       let g = contains_unmap path_and_files given own.of entry in
       let in_given : Contains g.0.sources.items s.0 =
-      subst (λ (e : PathAndFiles). Contains e.1.1.items s.0) (sym g.2) its in
-      let edition : own.of.1.0 ≡ g.0.edition = ap (λ (e : PathAndFiles). e.1.0) (sym g.2) in
-      by g.0 s.0 g.1 in_given w.file.reading (subst (λ e. IsReadingOf e s.0.bytes.items w.file.reading) edition s.2)
+      subst (λ (e : PathAndFiles). Contains e.1.sources.items s.0) (sym g.2) its in
+      let edition : own.of.1.edition ≡ g.0.edition = ap (λ (e : PathAndFiles). e.1.edition) (sym g.2) in
+      by g.0 paths s.0 g.1 in_given w.file.reading
+      (subst (λ e. IsReadingOf e paths s.0.bytes.items w.file.reading) edition s.2)
       w.file.is_fault
     where
-      by : (g : GivenPackage) (s : Source) → Contains given g → Contains g.sources.items s → (r : Reading)
-          → IsReadingOf g.edition s.bytes.items r
+      by : (g : GivenPackage) (paths : List MeantPath) (s : Source) → Contains given g → Contains g.sources.items s → (r : Reading)
+          → IsReadingOf g.edition paths s.bytes.items r
           → HasTreeFault r
           → ⊥
-      by g s among its (has_tree tree) read fault = fault
-      by g s among its (has_text_fault at why) read fault = fault
-      by g s among its (has_tree_fault at why) read fault =
+      by g paths s among its (has_tree tree) read fault = fault
+      by g paths s among its (has_text_fault at why) read fault = fault
+      by g paths s among its (has_tree_fault at why) read fault =
           let tree = trees g s read.tokens among its read.cut in read.no_tree tree.0 tree.1
 
   sources : (i : ℕ) (a b : Judged) → slice_get h.said i ≡ Some a → slice_get k.said i ≡ Some b
@@ -237,14 +241,14 @@ module _
       by (inr w) = absurd (none_missing trees w.0)
 
   found_same : HaveTrees given → AcceptTheSame telling telling_too
-      → found_in telling (map plain_package (map report_in h.said))
-      ≡ found_in telling_too (map plain_package (map report_in k.said))
+      → told_in telling (map plain_package (map report_in h.said))
+      ≡ told_in telling_too (map plain_package (map report_in k.said))
   found_same trees same =
-      ap (found_in telling) (told_of trees) ∙ found_too telling telling_too same (map plain_package (map report_in k.said))
+      ap (told_in telling) (told_of trees) ∙ found_too telling telling_too same (map plain_package (map report_in k.said))
 
   counts_too : HaveTrees given → AcceptTheSame telling telling_too → one.counts ≡ other.counts
   counts_too trees same =
-      let found = found_in telling_too (map plain_package (map report_in k.said)) in
+      let found = told_in telling_too (map plain_package (map report_in k.said)) in
       counted (gone_in telling_too found) found one.counts other.counts
       (subst (λ gone. AreCounted gone found one.counts) (gone_too telling telling_too same found)
       (subst (λ ps. AreCounted (gone_in telling ps) ps one.counts) (found_same trees same) h.told.is_told.are_counted))
@@ -257,8 +261,8 @@ module _
   same_text : telling ≡ telling_too → HaveTrees given → one.text.items ≡ other.text.items
   same_text one_telling trees =
       h.told.is_told.is_text
-      ∙ (ap (λ ps. text_of telling false (found_in telling ps)) (told_of trees)
-      ∙ (ap (λ (t : Telling). text_of t false (found_in t (map plain_package (map report_in k.said)))) one_telling
+      ∙ (ap (λ ps. text_of telling false (told_in telling ps)) (told_of trees)
+      ∙ (ap (λ (t : Telling). text_of t false (told_in t (map plain_package (map report_in k.said)))) one_telling
       ∙ sym k.told.is_told.is_text))
 
 pub given_packages_have_one_report : GivenPackagesHaveOneReport

@@ -17,7 +17,8 @@ use Rattle.report.specs.Entries.{entry_of}
 use Rattle.tree.specs.declared.edition.Edition.{Edition}
 use Rattle.meaning_reports.specs.Loaded.{Reading, has_tree, has_text_fault, has_tree_fault, LoadedPackage}
 use Rattle.whole_packages.specs.declared.loaded_package.LoadedPackage.{LoadedPackage as KeptPackage}
-use Rattle.load.specs.GivenPackages.{PathAndFiles, AreLoaded}
+use Rattle.load.specs.GivenPackages.{PathAndFiles, paths_of, AreLoaded}
+use Rattle.load.specs.MeantPaths.{MeantPath, meant_path}
 use Rattle.load.specs.Readings.{IsUnreadable, IsReadingOf, AreReadingsOf}
 use Rattle.one_package.specs.declared.judged.Judged.{Judged}
 use Rattle.one_package.specs.Judgments.{said_view}
@@ -67,32 +68,36 @@ unreadable_within text at TooLong h = let start = h.2.at_start refl in omega (ar
 
 -- Files
 
-fits : (edition : Edition) (text : List ℕ) (file : Reading) → IsReadingOf edition text file → Fits edition text file
-fits edition text (has_tree tree) h = h
-fits edition text (has_text_fault at why) h = unreadable_within text at why h
-fits edition text (has_tree_fault at why) h = h.within
+fits : (edition : Edition) (paths : List MeantPath) (text : List ℕ) (file : Reading) → IsReadingOf edition paths text file
+    → Fits edition text file
+fits edition paths text (has_tree tree) h =
+    record { meant = meant_path edition paths; written = h.written; is_tree = h.is_tree; same = h.same }
+fits edition paths text (has_text_fault at why) h = unreadable_within text at why h
+fits edition paths text (has_tree_fault at why) h = h.within
 
 abbrev text_of : Source → List ℕ
 text_of s = s.bytes.items
 
-pub source_there : (edition : Edition) (sources : List Source) (files : List Reading) → AreReadingsOf edition sources files
+pub source_there : (edition : Edition) (paths : List MeantPath) (sources : List Source) (files : List Reading)
+    → AreReadingsOf edition paths sources files
     → (n : ℕ) (file : Reading)
     → slice_get files n ≡ Some file
-    → (s : Source) × (slice_get sources n ≡ Some s) × IsReadingOf edition s.bytes.items file
-source_there edition [] [] are zero file is = let bad : None ≡ Some file = is in cc
-source_there edition [] [] are (suc n) file is = let bad : None ≡ Some file = is in cc
-source_there edition [] (r ∷ rs) are n file is = absurd are
-source_there edition (s ∷ ss) [] are n file is = absurd are
-source_there edition (s ∷ ss) (r ∷ rs) are zero file is =
-    let same : r ≡ file = cc in (s, refl, subst (IsReadingOf edition s.bytes.items) same are.0)
-source_there edition (s ∷ ss) (r ∷ rs) are (suc n) file is = source_there edition ss rs are.1 n file is
+    → (s : Source) × (slice_get sources n ≡ Some s) × IsReadingOf edition paths s.bytes.items file
+source_there edition paths [] [] are zero file is = let bad : None ≡ Some file = is in cc
+source_there edition paths [] [] are (suc n) file is = let bad : None ≡ Some file = is in cc
+source_there edition paths [] (r ∷ rs) are n file is = absurd are
+source_there edition paths (s ∷ ss) [] are n file is = absurd are
+source_there edition paths (s ∷ ss) (r ∷ rs) are zero file is =
+    let same : r ≡ file = cc in (s, refl, subst (IsReadingOf edition paths s.bytes.items) same are.0)
+source_there edition paths (s ∷ ss) (r ∷ rs) are (suc n) file is = source_there edition paths ss rs are.1 n file is
 
-are_texts : (sources : List Source) (p : LoadedPackage) → AreReadingsOf p.edition sources p.files
+are_texts : (paths : List MeantPath) (sources : List Source) (p : LoadedPackage)
+    → AreReadingsOf p.edition paths sources p.files
     → AreTextsOf (map text_of sources) p
-are_texts sources p are = record {
+are_texts paths sources p are = record {
   each = λ n file is.
-      let w = source_there p.edition sources p.files are n file is in
-      (w.0.bytes.items, slice_get-map text_of sources n ∙ ap (option_map text_of) w.1, fits p.edition w.0.bytes.items file w.2);
+      let w = source_there p.edition paths sources p.files are n file is in
+      (w.0.bytes.items, slice_get-map text_of sources n ∙ ap (option_map text_of) w.1, fits p.edition paths w.0.bytes.items file w.2);
 }
 
 from_map : (sources : List Source) (i : ℕ) (text : List ℕ) → slice_get (map text_of sources) i ≡ Some text
@@ -125,8 +130,8 @@ stand_in_sources rules they_lie es ps ks said loaded reports i judged d is among
     let sources = (reports.are_told i k.0 judged k.1 is).are_sources in
     let place = they_lie ps (map said_view said) p.0 (said_view judged) (map text_of k.0.sources.items) (entry_of d)
     reports.is_report record { place = i; is_package = p.1; is_said = view }
-    (are_texts k.0.sources.items p.0
-    (subst (λ edition. AreReadingsOf edition k.0.sources.items p.0.files) (sym own.loaded.is_edition) own.loaded.are_files)) (contains_map entry_of judged.report.diagnostics.items d among) in
+    (are_texts (paths_of own.of.1.imports) k.0.sources.items p.0
+    (subst (λ edition. AreReadingsOf edition (paths_of own.of.1.imports) k.0.sources.items p.0.files) (sym own.loaded.is_edition) own.loaded.are_files)) (contains_map entry_of judged.report.diagnostics.items d among) in
     let s = from_map k.0.sources.items d.file place.text place.is_file in
     record {
       source = s.0;

@@ -2,10 +2,10 @@
 use Rattle.std.proofs.Common.{List, refl, subst, sym}
 use Rattle.std.specs.Prelude.{String, string_bytes}
 use Rattle.std.specs.declared.alloc.Global.{Global}
-use Rattle.told_reports.specs.declared.reports.Report.{Report}
 use Rattle.certificate_json.specs.declared.certificates.Certificates.{Certificates}
 use Rattle.declared_tables.specs.DeclaredTables.{declared_tables}
 use Rattle.judge.specs.Verified.{given_in, TellsVerified, IsVerifiedReport, AreTooOld}
+use Rattle.judge.specs.declared.not_given.NotedReport.{NotedReport}
 use Rattle.judge.specs.declared.verified.Verified.{Verified}
 use Rattle.judge.specs.declared.verified.Verified.TheVariants.{Told, IsTooOld}
 use Rattle.judge.proofs.Loads.{tell_loaded, is_report_by}
@@ -34,19 +34,19 @@ told_beside telling outside given loaded certificates told beside tells =
     beside.is_outside tells
 
 pub is_verified : (telling : Telling) (outside : List PackageEntry) (given : List GivenPackage) (loaded : Loaded)
-    (certificates : Certificates) (report : Report)
+    (certificates : Certificates) (noted : NotedReport)
     → IsLoadBeside given outside loaded
-    → TellsVerified telling (declared_tables outside) loaded.packages.items certificates (Told report)
-    → IsVerifiedReport telling outside given certificates report
+    → TellsVerified telling (declared_tables outside) loaded.packages.items certificates (Told noted)
+    → IsVerifiedReport telling outside given certificates noted.report
 unfolding is_report_by
-is_verified telling outside given loaded certificates report beside told =
+is_verified telling outside given loaded certificates noted beside told =
     let rules = given_in certificates in
     let declared = declared_tables outside in
     let load = beside.load in
     record {
       is_report =
           is_report_by (by_certificates rules) telling outside refl (quiet rules declared)
-          (verified_entries_lie rules declared) given loaded report beside told.1;
+          (verified_entries_lie rules declared) given loaded noted.report beside told.1;
       none_is_too_old_for =
           sym (told.0 load.meant (tell_loaded given loaded.packages.items load) load.distinct);
     }

@@ -14,7 +14,8 @@ use Rattle.judge.specs.CertificateLaws.{CanBeWritten}
 use Rattle.judge.proofs.LoadedPackages.{are_as_many, each_loaded}
 use Rattle.judge.proofs.SourcePlaces.{there}
 use Rattle.lexer.specs.declared.source.Source.{Source}
-use Rattle.load.specs.GivenPackages.{PathAndFiles, entry_of, has_many_files, AreLoadable, IsLoad}
+use Rattle.load.specs.GivenPackages.{PathAndFiles, entry_of, paths_of, has_many_files, AreLoadable, IsLoad}
+use Rattle.load.specs.MeantPaths.{MeantPath}
 use Rattle.load.specs.Readings.{AreReadingsOf}
 use Rattle.load.specs.declared.packages.GivenPackage.{GivenPackage}
 use Rattle.load.specs.declared.packages.TheConstants.{MOST_PACKAGES, MOST_FILES}
@@ -36,12 +37,13 @@ few_trees n (has_tree t ∷ rs) = let rest = few_trees (n + 1) rs in omega (arit
 few_trees n (has_text_fault at why ∷ rs) = let rest = few_trees (n + 1) rs in omega (arith, rest)
 few_trees n (has_tree_fault at why ∷ rs) = let rest = few_trees (n + 1) rs in omega (arith, rest)
 
-as_many_read : (edition : Edition) (sources : List Source) (rs : List Reading) → AreReadingsOf edition sources rs
+as_many_read : (edition : Edition) (paths : List MeantPath) (sources : List Source) (rs : List Reading)
+    → AreReadingsOf edition paths sources rs
     → length rs ≡ length sources
-as_many_read edition [] [] h = refl
-as_many_read edition [] (r ∷ rs) h = absurd h
-as_many_read edition (s ∷ ss) [] h = absurd h
-as_many_read edition (s ∷ ss) (r ∷ rs) h = ap suc (as_many_read edition ss rs h.1)
+as_many_read edition paths [] [] h = refl
+as_many_read edition paths [] (r ∷ rs) h = absurd h
+as_many_read edition paths (s ∷ ss) [] h = absurd h
+as_many_read edition paths (s ∷ ss) (r ∷ rs) h = ap suc (as_many_read edition paths ss rs h.1)
 
 no_or : (x y : Bool) → (x || y) ≡ false → y ≡ false
 no_or true y e = let bad : true ≡ false = e in cc
@@ -68,10 +70,10 @@ module _ (given : List GivenPackage) (kept : List KeptPackage) (can : AreLoadabl
       let entry = Contains-permutation load.in_order (map entry_of given) own.of
       (IsPermutation-sym (map entry_of given) load.in_order load.same) own.is_given in
       let g = contains_unmap entry_of given own.of entry in
-      let few : length own.of.1.1.items ≤ MOST_FILES =
-      subst (λ (e : PathAndFiles). length e.1.1.items ≤ MOST_FILES) g.2 (few_files given can g.0 g.1) in
-      let same = length_permutation own.of.1.1.items k.0.sources.items own.loaded.by_name.same in
-      let read = as_many_read own.of.1.0 k.0.sources.items p.files own.loaded.are_files in
+      let few : length own.of.1.sources.items ≤ MOST_FILES =
+      subst (λ (e : PathAndFiles). length e.1.sources.items ≤ MOST_FILES) g.2 (few_files given can g.0 g.1) in
+      let same = length_permutation own.of.1.sources.items k.0.sources.items own.loaded.by_name.same in
+      let read = as_many_read own.of.1.edition (paths_of own.of.1.imports) k.0.sources.items p.files own.loaded.are_files in
       let trees = few_trees 0 p.files in
       let counted = length-map (numbered_trees p) (λ (t : NumberedTree). t.tree) in
       omega (arith, few, same, read, trees, counted)

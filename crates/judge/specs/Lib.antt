@@ -7,6 +7,7 @@ pub mod CheckFaults
 pub mod Certified
 pub mod Explained
 pub mod Verified
+pub mod NotGiven
 -- To be trusted: where `check` and `verify` agree, of the bytes of files.
 pub mod GivenPackages
 pub mod FullCredits

@@ -9,6 +9,7 @@ use Rattle.tree.specs.Syntax.{SourceFile}
 use Rattle.meaning.specs.TreeOfText.{IsTreeOf}
 use Rattle.load.specs.declared.packages.GivenPackage.{GivenPackage}
 use Rattle.declared_json.specs.DeclaredPackages.{PackageEntry}
+use Rattle.accepting.specs.Found.{unasked_of}
 use Rattle.accepting.specs.declared.telling.Telling.{Telling}
 use Rattle.judge.specs.Reports.{Report, IsReport}
 use Rattle.told_reports.specs.Reports.{known_in}
@@ -21,11 +22,12 @@ HaveTrees given = (g : GivenPackage) (s : Source) (tokens : List Token)
     → IsTokens s.bytes.items tokens
     → (tree : SourceFile) × IsTreeOf g.edition s.bytes.items tree
 
--- by both the same is accepted
+-- by both the same is accepted, of the same packages
 pub record AcceptTheSame (one other : Telling) : Type 0 where
   pub wording : one.wording ≡ other.wording
   pub stale : one.tells_stale ≡ other.tells_stale
   pub known : known_in one ≡ known_in other
+  pub unasked : unasked_of one ≡ unasked_of other
 
 pub record GivenPackagesHaveOneReport : Type 0 where
   pub one_verdict : (telling telling_too : Telling) (outside : List PackageEntry) (given : List GivenPackage)

@@ -5,6 +5,7 @@ use Rattle.told_reports.specs.declared.reports.Report.{Report}
 use Rattle.cause_mentions.specs.CauseMentions.{first_with_causes}
 use Rattle.certificate_json.specs.Certificates.{packages_of}
 use Rattle.certificate_json.specs.declared.certificates.Certificates.{Certificates}
+use Rattle.judge.specs.NotGiven.{TellNotGiven}
 use Rattle.judge.specs.Reports.{IsReportBy}
 use Rattle.judge.specs.declared.verified.Verified.{Verified}
 use Rattle.judge.specs.declared.verified.Verified.TheVariants as verified
@@ -62,8 +63,9 @@ IsTooOldFor kept certificates found =
     (ps : List LoadedPackage) → TellPackages ps kept → HaveDistinctPaths ps → found ≡ too_old certificates.version ps
 
 abbrev pub TellsVerified : Telling → Tables → List KeptPackage → Certificates → Verified → Type 0
-TellsVerified telling declared kept certificates (verified.Told report) =
+TellsVerified telling declared kept certificates (verified.Told noted) =
     IsTooOldFor kept certificates None
-    × TellsReportBy telling (by_certificates (given_in certificates) declared) kept report
+    × TellsReportBy telling (by_certificates (given_in certificates) declared) kept noted.report
+    × TellNotGiven kept noted.not_given.items
 TellsVerified telling declared kept certificates (verified.IsTooOld path) =
     IsTooOldFor kept certificates (Some (string_bytes path))

@@ -4,11 +4,13 @@ ghost use Rattle.std.specs.Prelude.{IfErr, IfOk, length, string_bytes};
 ghost use Rattle.declared_tables.specs.DeclaredTables.{declared_tables};
 ghost use Rattle.judge.specs.CheckFaults.{IsCheckFault};
 ghost use Rattle.judge.specs.Certified.{IsCertifiedReport, TellsCertifiedText};
+ghost use Rattle.judge.specs.NotGiven.{AreNotGiven, TellNotGiven};
 ghost use Rattle.declared_json.specs.DeclaredPackages.{packages_of};
 ghost use Rattle.package_workers.specs.Faults.{IsFaultOf};
 ghost use Rattle.workers.specs.Counts.{count_of};
 
 use crate::check_fault::{CheckFault, of_workers};
+use crate::not_given::not_given;
 use all_certificates::{Certified, Settings};
 use certificate_json::to_json;
 use declared_json::DeclaredPackages;
@@ -20,11 +22,13 @@ use std::thread::Threads;
 use told_reports::Report;
 use whole_packages::LoadedPackage;
 
-/// The report of packages, and the text of their certificates.
+/// The report of packages, and the text of their certificates; and for notes the paths of those that count as not given
+/// and that one of the packages imports.
 #[derive(Debug, Drop)]
 pub struct CertifiedReport {
     pub report: Report,
     pub certificates: String,
+    pub not_given: Vec<String>,
 }
 
 /// The report and the certificates of packages of different paths, where that is declared of others, by so many
@@ -38,6 +42,7 @@ fn certified_text_of<R: Threads + Wait + Sync>(
 ) -> Result<CertifiedReport, WorkersFault>
     ensures certified { IfOk result
         (TellsCertifiedText settings.entry.telling (declared_tables (packages_of outside.now)) packages.now) }
+    ensures not_given { IfOk result (λ told. TellNotGiven packages.now told.not_given.items) }
     ensures fault { IfErr result (IsFaultOf (count_of settings.entry.workers) (length packages.now)) }
 {
     let Certified {
@@ -45,9 +50,11 @@ fn certified_text_of<R: Threads + Wait + Sync>(
         certificates,
     } = all_certificates::certified_report_by_workers(rt, alloc, packages, outside, settings)?;
     let certificates = to_json(alloc, &certificates)?;
+    let not_given = not_given(alloc, packages)?;
     Ok(CertifiedReport {
         report,
         certificates,
+        not_given,
     })
 }
 
@@ -61,6 +68,7 @@ fn certified_loaded<R: Threads + Wait + Sync, L: Leave>(
     ensures certified { IfOk result
         (TellsCertifiedText settings.entry.telling
         (declared_tables (packages_of loaded.outside)) loaded.packages.items) }
+    ensures not_given { IfOk result (λ told. TellNotGiven loaded.packages.items told.not_given.items) }
     ensures fault { IfErr result (IsFaultOf (count_of settings.entry.workers) (length loaded.packages.items)) }
 {
     let told = certified_text_of(rt, alloc, &loaded.packages, &loaded.outside, settings);
@@ -85,6 +93,7 @@ pub fn certified_report_by_workers<R: Threads + Wait + Sync, L: Leave>(
 ) -> Result<CertifiedReport, CheckFault>
     ensures report { IfOk result (λ told. IsCertifiedReport settings.entry.telling (packages_of outside) given.items
         told.report (string_bytes told.certificates)) }
+    ensures not_given { IfOk result (λ told. AreNotGiven (packages_of outside) given.items told.not_given.items) }
     ensures fault { IfErr result (IsCheckFault (packages_of outside) given.items (count_of settings.entry.workers)) }
 {
     let loaded = match load_beside_by_workers(rt, alloc, given, outside, settings.workers) {

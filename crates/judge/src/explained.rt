@@ -4,11 +4,13 @@ ghost use Rattle.std.specs.Prelude.{IfErr, IfOk, length};
 ghost use Rattle.declared_tables.specs.DeclaredTables.{declared_tables};
 ghost use Rattle.judge.specs.CheckFaults.{IsCheckFault};
 ghost use Rattle.judge.specs.Explained.{IsExplainedReport, TellsExplained};
+ghost use Rattle.judge.specs.NotGiven.{AreNotGiven, TellNotGiven};
 ghost use Rattle.declared_json.specs.DeclaredPackages.{packages_of};
 ghost use Rattle.package_workers.specs.Faults.{IsFaultOf};
 ghost use Rattle.workers.specs.Counts.{count_of};
 
 use crate::check_fault::{CheckFault, of_workers};
+use crate::not_given::not_given;
 use all_certificates::Settings;
 use declared_json::DeclaredPackages;
 use explanations::explain;
@@ -21,11 +23,13 @@ use std::thread::Threads;
 use told_reports::{Report, explained_text, told};
 use whole_packages::LoadedPackage;
 
-/// The report of packages, and its text with the notes of each finding.
+/// The report of packages, and its text with the notes of each finding; and for notes of the run the paths of those
+/// that count as not given and that one of the packages imports.
 #[derive(Debug, Drop)]
 pub struct ExplainedReport {
     pub report: Report,
     pub text: Vec<u8>,
+    pub not_given: Vec<String>,
 }
 
 /// The report of packages of different paths, and its text with the notes, by so many workers, where that is declared
@@ -39,6 +43,7 @@ fn explained_text_of<R: Threads + Wait + Sync>(
 ) -> Result<ExplainedReport, WorkersFault>
     ensures explained { IfOk result
         (TellsExplained settings.entry.telling (declared_tables (packages_of outside.now)) packages.now) }
+    ensures not_given { IfOk result (λ told. TellNotGiven packages.now told.not_given.items) }
     ensures fault { IfErr result (IsFaultOf (count_of settings.entry.workers) (length packages.now)) }
 {
     let crew = Crew {
@@ -49,8 +54,13 @@ fn explained_text_of<R: Threads + Wait + Sync>(
     let judged = check_by_workers(alloc, crew, packages, outside, &ByPaths)?;
     let explained = explain(alloc, packages, outside, &judged)?;
     let text = explained_text(alloc, settings.telling, explained)?;
+    let not_given = not_given(alloc, packages)?;
     let report = told(alloc, settings.telling, judged)?;
-    Ok(ExplainedReport { report, text })
+    Ok(ExplainedReport {
+        report,
+        text,
+        not_given,
+    })
 }
 
 /// The same, where `L` says what becomes of the packages then.
@@ -62,6 +72,7 @@ fn explained_loaded<R: Threads + Wait + Sync, L: Leave>(
 ) -> Result<ExplainedReport, WorkersFault>
     ensures explained { IfOk result
         (TellsExplained settings.entry.telling (declared_tables (packages_of loaded.outside)) loaded.packages.items) }
+    ensures not_given { IfOk result (λ told. TellNotGiven loaded.packages.items told.not_given.items) }
     ensures fault { IfErr result (IsFaultOf (count_of settings.entry.workers) (length loaded.packages.items)) }
 {
     let explained = explained_text_of(rt, alloc, &loaded.packages, &loaded.outside, settings);
@@ -85,6 +96,7 @@ pub fn explained_report_by_workers<R: Threads + Wait + Sync, L: Leave>(
     settings: Settings<'_>,
 ) -> Result<ExplainedReport, CheckFault>
     ensures report { IfOk result (IsExplainedReport settings.entry.telling (packages_of outside) given.items) }
+    ensures not_given { IfOk result (λ told. AreNotGiven (packages_of outside) given.items told.not_given.items) }
     ensures fault { IfErr result (IsCheckFault (packages_of outside) given.items (count_of settings.entry.workers)) }
 {
     let loaded = match load_beside_by_workers(rt, alloc, given, outside, settings.workers) {

@@ -8,6 +8,7 @@ mod check_fault;
 mod explained;
 mod first;
 mod laws;
+mod not_given;
 mod reports;
 mod verified;
 
@@ -23,6 +24,7 @@ pub use check_fault::CheckFault;
 pub use explained::{ExplainedReport, explained_report_by_workers};
 pub use first::first_with_causes;
 pub use laws::given_packages_have_one_report;
+pub use not_given::NotedReport;
 pub use reports::{report_by_workers, report_of};
 pub use told_reports::{Counts, Report};
 pub use verified::{VerifyFault, verified_report_of};

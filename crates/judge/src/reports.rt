@@ -4,6 +4,7 @@ ghost use Rattle.std.specs.Prelude.{IfErr, IfOk, length};
 ghost use Rattle.told_reports.specs.Reports.{TellsReport};
 ghost use Rattle.declared_tables.specs.DeclaredTables.{declared_tables};
 ghost use Rattle.judge.specs.CheckFaults.{IsCheckFault};
+ghost use Rattle.judge.specs.NotGiven.{AreNotGiven, TellNotGiven};
 ghost use Rattle.judge.specs.Reports.{IsReport};
 ghost use Rattle.load.specs.LoadedBeside.{IsLoadFaultBeside};
 ghost use Rattle.declared_json.specs.DeclaredPackages.{packages_of};
@@ -11,6 +12,7 @@ ghost use Rattle.package_workers.specs.Faults.{IsFaultOf};
 ghost use Rattle.workers.specs.Counts.{count_of};
 
 use crate::check_fault::{CheckFault, of_workers};
+use crate::not_given::{NotedReport, not_given};
 use accepting::Telling;
 use all_certificates::Settings;
 use all_packages::check_by_rules;
@@ -47,16 +49,18 @@ fn report_loaded(alloc: Global, loaded: Loaded, telling: Telling<'_>) -> Result<
     told
 }
 
-/// The report of packages of different paths by so many workers, where that is declared of others.
+/// The report of packages of different paths by so many workers, where that is declared of others, and which of them
+/// count as not given.
 fn whole_report_by_workers<R: Threads + Wait + Sync>(
     rt: &R,
     alloc: Global,
     packages: &[LoadedPackage],
     outside: &DeclaredPackages,
     settings: Settings<'_>,
-) -> Result<Report, WorkersFault>
-    ensures report { IfOk result
-        (TellsReport settings.entry.telling (declared_tables (packages_of outside.now)) packages.now) }
+) -> Result<NotedReport, WorkersFault>
+    ensures report { IfOk result (λ noted.
+        TellsReport settings.entry.telling (declared_tables (packages_of outside.now)) packages.now noted.report) }
+    ensures not_given { IfOk result (λ noted. TellNotGiven packages.now noted.not_given.items) }
     ensures fault { IfErr result (IsFaultOf (count_of settings.entry.workers) (length packages.now)) }
 {
     let crew = Crew {
@@ -65,7 +69,9 @@ fn whole_report_by_workers<R: Threads + Wait + Sync>(
         gate: &Open,
     };
     let judged = check_by_workers(alloc, crew, packages, outside, &ByPaths)?;
-    Ok(told(alloc, settings.telling, judged)?)
+    let not_given = not_given(alloc, packages)?;
+    let report = told(alloc, settings.telling, judged)?;
+    Ok(NotedReport { report, not_given })
 }
 
 /// The same, where `L` says what becomes of the packages then.
@@ -74,9 +80,10 @@ fn report_loaded_by_workers<R: Threads + Wait + Sync, L: Leave>(
     alloc: Global,
     loaded: Loaded,
     settings: Settings<'_>,
-) -> Result<Report, WorkersFault>
-    ensures report { IfOk result
-        (TellsReport settings.entry.telling (declared_tables (packages_of loaded.outside)) loaded.packages.items) }
+) -> Result<NotedReport, WorkersFault>
+    ensures report { IfOk result (λ noted. TellsReport settings.entry.telling
+        (declared_tables (packages_of loaded.outside)) loaded.packages.items noted.report) }
+    ensures not_given { IfOk result (λ noted. TellNotGiven loaded.packages.items noted.not_given.items) }
     ensures fault { IfErr result (IsFaultOf (count_of settings.entry.workers) (length loaded.packages.items)) }
 {
     let report = whole_report_by_workers(rt, alloc, &loaded.packages, &loaded.outside, settings);
@@ -107,9 +114,10 @@ pub fn report_of(
     Ok(report_loaded(alloc, loaded, telling)?)
 }
 
-/// The same report, in the format of the settings, for any number of workers, and a yes says the same. So many threads
-/// read the files, and then judge the packages; with one worker no thread is started. Where a thread can't be started
-/// that should read files, the others do its work. What becomes of the packages, once they were judged, `L` says.
+/// The same report, in the format of the settings, for any number of workers, and a yes says the same; and for notes
+/// which packages count as not given. So many threads read the files, and then judge the packages; with one worker no
+/// thread is started. Where a thread can't be started that should read files, the others do its work. What becomes of
+/// the packages, once they were judged, `L` says.
 ///
 /// # Errors
 ///
@@ -121,8 +129,10 @@ pub fn report_by_workers<R: Threads + Wait + Sync, L: Leave>(
     given: Vec<GivenPackage>,
     outside: DeclaredPackages,
     settings: Settings<'_>,
-) -> Result<Report, CheckFault>
-    ensures report { IfOk result (IsReport settings.entry.telling (packages_of outside) given.items) }
+) -> Result<NotedReport, CheckFault>
+    ensures report { IfOk result (λ noted.
+        IsReport settings.entry.telling (packages_of outside) given.items noted.report) }
+    ensures not_given { IfOk result (λ noted. AreNotGiven (packages_of outside) given.items noted.not_given.items) }
     ensures fault { IfErr result (IsCheckFault (packages_of outside) given.items (count_of settings.entry.workers)) }
 {
     let loaded = match load_beside_by_workers(rt, alloc, given, outside, settings.workers) {

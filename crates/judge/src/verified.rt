@@ -3,11 +3,13 @@
 ghost use Rattle.std.specs.Prelude.{IfErr, IfOk, option_map};
 ghost use Rattle.told_reports.specs.Reports.{TellsReportBy};
 ghost use Rattle.declared_tables.specs.DeclaredTables.{declared_tables};
+ghost use Rattle.judge.specs.NotGiven.{AreNotGiven, TellNotGiven};
 ghost use Rattle.judge.specs.Verified.{given_in, IsTooOldFor, IsVerifiedReport, IsVerifyFault, TellsVerified};
 ghost use Rattle.declared_json.specs.DeclaredPackages.{packages_of};
 ghost use Rattle.verifier.specs.Rules.{by_certificates};
 
 use crate::first::first_with_causes;
+use crate::not_given::{NotedReport, not_given};
 use accepting::Telling;
 use all_packages::check_by_rules;
 use certificate_json::Certificates;
@@ -15,7 +17,7 @@ use declared_json::DeclaredPackages;
 use load::{GivenPackage, Leave, LoadFault, Loaded, load_beside};
 use std::alloc::{AllocError, Global};
 use table_json::Version;
-use told_reports::{Report, told};
+use told_reports::told;
 use verifier::ByCertificates;
 use whole_packages::LoadedPackage;
 
@@ -32,7 +34,7 @@ pub enum VerifyFault {
 /// What comes of loaded packages.
 #[derive(Drop)]
 enum Verified {
-    Told(Report),
+    Told(NotedReport),
     IsTooOld(String),
 }
 
@@ -51,20 +53,24 @@ fn too_old<'a>(
 }
 
 /// The report of packages of different paths by certificates, whatever version these have, where that is declared of
-/// others.
+/// others, and which of them count as not given.
 fn told_by(
     alloc: Global,
     packages: &[LoadedPackage],
     outside: &DeclaredPackages,
     certificates: &Certificates,
     telling: Telling<'_>,
-) -> Result<Report, AllocError>
-    ensures { IfOk result (TellsReportBy telling.entry
-        (by_certificates (given_in certificates.now) (declared_tables (packages_of outside.now))) packages.now) }
+) -> Result<NotedReport, AllocError>
+    ensures report { IfOk result (λ noted. TellsReportBy telling.entry
+        (by_certificates (given_in certificates.now) (declared_tables (packages_of outside.now))) packages.now
+        noted.report) }
+    ensures not_given { IfOk result (λ noted. TellNotGiven packages.now noted.not_given.items) }
 {
     let rules = ByCertificates::new(alloc, certificates)?;
     let judged = check_by_rules(alloc, packages, outside, &rules)?;
-    told(alloc, telling, judged)
+    let not_given = not_given(alloc, packages)?;
+    let report = told(alloc, telling, judged)?;
+    Ok(NotedReport { report, not_given })
 }
 
 /// The report of packages of different paths by certificates, unless these are too old for one of them.
@@ -120,8 +126,10 @@ pub fn verified_report_of<L: Leave>(
     outside: DeclaredPackages,
     certificates: &Certificates,
     telling: Telling<'_>,
-) -> Result<Report, VerifyFault>
-    ensures report { IfOk result (IsVerifiedReport telling.entry (packages_of outside) given.items certificates.now) }
+) -> Result<NotedReport, VerifyFault>
+    ensures report { IfOk result (λ noted.
+        IsVerifiedReport telling.entry (packages_of outside) given.items certificates.now noted.report) }
+    ensures not_given { IfOk result (λ noted. AreNotGiven (packages_of outside) given.items noted.not_given.items) }
     ensures fault { IfErr result (IsVerifyFault (packages_of outside) given.items certificates.now) }
 {
     let loaded = match load_beside(alloc, given, outside) {

@@ -6,4 +6,4 @@ mod beside;
 mod library;
 
 pub use beside::{but_given, declared_among, with_library};
-pub use library::library_facts;
+pub use library::{library_facts, library_text};

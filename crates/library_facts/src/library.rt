@@ -4,10 +4,26 @@ ghost use Rattle.std.specs.Prelude.{◌≡◌, ◌++◌, [], ◌∷◌, IfOk, On
 ghost use Rattle.table_json.specs.declared.table.Parameter.TheVariants.{Cancel};
 ghost use Rattle.declared_json.specs.DeclaredPackages.{function_of, package_of, packages_of};
 ghost use Rattle.library_facts.specs.Library.{calls_at, gives_at, library_entries, package_with};
+ghost use Rattle.library_facts.specs.LibraryText.{library_text};
 
 use declared_json::{DeclaredFunction, DeclaredPackage, DeclaredPackages};
 use std::alloc::{AllocError, Global};
 use table_json::{Function, Parameter};
+
+/// What is known, a line for each function.
+const LIBRARY_TEXT: &str = "crypto/subtle.WithDataIndependentTiming calls 0 of 0
+os/signal.NotifyContext gives 1 of 2
+runtime/trace.WithRegion calls 2 of 0
+testing.AllocsPerRun calls 1 of 1
+";
+
+/// What is known of Go's library, as a text: another set has another one.
+#[tactic(auto, unfolding(crate::specs::Library::library_entries))]
+pub fn library_text() -> &'static str
+    ensures { result.now ≡ library_text }
+{
+    LIBRARY_TEXT
+}
 
 /// The function of this name calls the cancel function that it takes at this position.
 fn calls_at(

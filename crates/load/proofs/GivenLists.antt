@@ -11,7 +11,7 @@ use Rattle.whole_packages.specs.LoadedViews.{HaveDistinctPaths}
 use Rattle.load.specs.declared.packages.GivenPackage.{GivenPackage}
 use Rattle.load.specs.FilesByName.{AreByName}
 use Rattle.load.specs.Readings.{AreReadingsOf, IsLoadedAs}
-use Rattle.load.specs.GivenPackages.{Text, PathAndFiles, entry_of, path_of, first_repeated, AreInOrder, AreLoaded, IsByName, IsLoadOf, IsReadAs}
+use Rattle.load.specs.GivenPackages.{Text, PathAndFiles, entry_of, path_of, paths_of, first_repeated, AreInOrder, AreLoaded, IsByName, IsLoadOf, IsReadAs}
 
 -- Paths that come again
 
@@ -87,7 +87,7 @@ gives_all given left entries none so = (
 -- this is kept of the package of that path and edition with these files
 pub record IsRead (entry : PathAndFiles) (kept : KeptPackage) : Type 0 where
   pub meant : LoadedPackage
-  pub loaded : IsLoadedAs entry.1.0 (string_bytes entry.0) entry.1.1.items meant kept
+  pub loaded : IsLoadedAs entry.1.edition (string_bytes entry.0) (paths_of entry.1.imports) entry.1.sources.items meant kept
 
 abbrev pub AreRead : List PathAndFiles → List KeptPackage → Type 0
 AreRead = AllZip IsRead
@@ -100,10 +100,12 @@ is_read entry given kept ordered read = record {
     tells = read.tells;
     is_path = read.is_path ∙ ap string_bytes ordered.is_path;
     is_edition = read.is_edition ∙ ordered.is_edition;
-    by_name = subst (AreByName entry.1.1.items) (sym read.same_files) ordered.by_name;
+    by_name = subst (AreByName entry.1.sources.items) (sym read.same_files) ordered.by_name;
     are_files =
-        subst (λ e. AreReadingsOf e kept.sources.items read.meant.files) ordered.is_edition
-        (subst (λ ss. AreReadingsOf given.edition ss read.meant.files) (sym read.same_files) read.are_files);
+        subst (λ e. AreReadingsOf e (paths_of entry.1.imports) kept.sources.items read.meant.files) ordered.is_edition
+        (subst (λ ps. AreReadingsOf given.edition (paths_of ps) kept.sources.items read.meant.files) ordered.are_imports
+        (subst (λ ss. AreReadingsOf given.edition (paths_of given.imports) ss read.meant.files) (sym read.same_files)
+        read.are_files));
   };
 }
 

@@ -1,6 +1,7 @@
 mod FilesLoaded
 mod FirstGiven
 mod GivenLists
+mod MeantTrees
 pub mod OneOrder
 mod ReadAhead
 pub mod TreesOfTexts

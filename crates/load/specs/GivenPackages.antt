@@ -5,29 +5,35 @@ use Rattle.std.specs.List.{list_any, AllZip, IsDistinct}
 use Rattle.std.specs.Map.{keys_of}
 use Rattle.std.specs.declared.alloc.Global.{Global}
 use Rattle.lexer.specs.declared.source.Source.{Source}
-use Rattle.tree.specs.declared.edition.Edition.{Edition}
 use Rattle.meaning_reports.specs.Loaded.{LoadedPackage}
 use Rattle.whole_packages.specs.declared.loaded_package.LoadedPackage.{LoadedPackage as KeptPackage}
 use Rattle.whole_packages.specs.LoadedViews.{HaveDistinctPaths, TellsPackage}
 use Rattle.load.specs.FilesByName.{AreByName}
+use Rattle.load.specs.MeantPaths.{MeantPath, meant_of}
 use Rattle.load.specs.Readings.{AreReadingsOf, IsLoadedAs}
+use Rattle.load.specs.declared.meant.MeantImport.{MeantImport}
 use Rattle.load.specs.declared.packages.GivenPackage.{GivenPackage}
 use Rattle.load.specs.declared.packages.LoadFault.{LoadFault}
+use Rattle.load.specs.declared.packages.PackageFiles.{PackageFiles}
 use Rattle.load.specs.declared.packages.LoadFault.TheVariants.{TooMany, TwoPackages, NamesGiven, OutOfMemory}
 use Rattle.load.specs.declared.packages.TheConstants.{MOST_PACKAGES, MOST_FILES}
 
 abbrev pub Text : Type 0
 Text = String Global
 
--- a path, the edition by which its package is judged, and its files
+-- a path; the edition by which its package is judged, its files, and what is said of the paths of their imports
 abbrev pub PathAndFiles : Type 0
-PathAndFiles = Text × (Edition × Vec Source Global)
+PathAndFiles = Text × PackageFiles
 
 abbrev pub path_of : GivenPackage → Text
 path_of g = g.path
 
 abbrev pub entry_of : GivenPackage → PathAndFiles
-entry_of g = (g.path, (g.edition, g.sources))
+entry_of g = (g.path, record { edition = g.edition; sources = g.sources; imports = g.imports })
+
+-- what is said of the paths of imports
+abbrev pub paths_of : Vec MeantImport Global → List MeantPath
+paths_of imports = map meant_of imports.items
 
 abbrev pub has_many_files : GivenPackage → Bool
 has_many_files g = nat_lt MOST_FILES (length g.sources.items)
@@ -59,7 +65,7 @@ pub record AreLoadable (given : List GivenPackage) : Type 0 where
 abbrev pub AreLoaded : List PathAndFiles → List LoadedPackage → List KeptPackage → Type 0
 AreLoaded [] [] [] = ⊤
 AreLoaded (e ∷ es) (p ∷ ps) (k ∷ ks) =
-    IsLoadedAs e.1.0 (string_bytes e.0) e.1.1.items p k × AreLoaded es ps ks
+    IsLoadedAs e.1.edition (string_bytes e.0) (paths_of e.1.imports) e.1.sources.items p k × AreLoaded es ps ks
 AreLoaded [] [] (k ∷ ks) = ⊥
 AreLoaded [] (p ∷ ps) ks = ⊥
 AreLoaded (e ∷ es) [] ks = ⊥
@@ -88,8 +94,9 @@ IsRepeated given OutOfMemory = ⊤
 -- the package has that path and edition, and these files in the order of their names
 pub record IsByName (entry : PathAndFiles) (given : GivenPackage) : Type 0 where
   pub is_path : given.path ≡ entry.0
-  pub is_edition : given.edition ≡ entry.1.0
-  pub by_name : AreByName entry.1.1.items given.sources.items
+  pub is_edition : given.edition ≡ entry.1.edition
+  pub are_imports : given.imports ≡ entry.1.imports
+  pub by_name : AreByName entry.1.sources.items given.sources.items
 
 -- the packages of these paths and files, in the order of their paths, and their files in that of their names
 pub record AreInOrder (entries : List PathAndFiles) (given : List GivenPackage) : Type 0 where
@@ -106,4 +113,4 @@ pub record IsReadAs (given : GivenPackage) (kept : KeptPackage) : Type 0 where
   pub is_path : meant.path ≡ string_bytes given.path
   pub is_edition : meant.edition ≡ given.edition
   pub same_files : kept.sources.items ≡ given.sources.items
-  pub are_files : AreReadingsOf given.edition given.sources.items meant.files
+  pub are_files : AreReadingsOf given.edition (paths_of given.imports) given.sources.items meant.files

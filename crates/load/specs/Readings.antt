@@ -25,7 +25,9 @@ use Rattle.whole_packages.specs.declared.loaded_package.LoadedPackage.{LoadedPac
 use Rattle.whole_packages.specs.declared.loaded_package.Reading.{Reading as KeptReading}
 use Rattle.whole_packages.specs.declared.loaded_package.Reading.TheVariants as kept
 use Rattle.whole_packages.specs.LoadedViews.{TellsPackage}
+use Rattle.meaning_reports.specs.MeantImports.{Meant, with_meant_imports}
 use Rattle.load.specs.FilesByName.{AreByName}
+use Rattle.load.specs.MeantPaths.{IsMeantTree, MeantPath}
 
 -- the lexer's fault of this kind at an offset
 abbrev pub lex_fault_at : ℕ → TextFault → LexFault
@@ -55,27 +57,30 @@ pub record IsUnparsed (edition : Edition) (text : List ℕ) (at : ℕ) (why : Tr
   pub within : at ≤ length text
   pub of_tree : why ≢ Recover
 
--- this became of the bytes
-abbrev pub IsReadingOf : Edition → List ℕ → Reading → Type 0
-IsReadingOf edition text (has_tree tree) = IsTreeOf edition text tree
-IsReadingOf edition text (has_text_fault at why) = IsUnreadable text at why
-IsReadingOf edition text (has_tree_fault at why) = IsUnparsed edition text at why
+-- this became of the bytes of a file, in whose package this is said of import paths
+abbrev pub IsReadingOf : Edition → List MeantPath → List ℕ → Reading → Type 0
+IsReadingOf edition paths text (has_tree tree) = IsMeantTree edition paths text tree
+IsReadingOf edition paths text (has_text_fault at why) = IsUnreadable text at why
+IsReadingOf edition paths text (has_tree_fault at why) = IsUnparsed edition text at why
 
-abbrev pub AreReadingsOf : Edition → List Source → List Reading → Type 0
-AreReadingsOf edition [] [] = Unit {0}
-AreReadingsOf edition [] (r ∷ rs) = ⊥
-AreReadingsOf edition (s ∷ ss) [] = ⊥
-AreReadingsOf edition (s ∷ ss) (r ∷ rs) = IsReadingOf edition s.bytes.items r × AreReadingsOf edition ss rs
+abbrev pub AreReadingsOf : Edition → List MeantPath → List Source → List Reading → Type 0
+AreReadingsOf edition paths [] [] = Unit {0}
+AreReadingsOf edition paths [] (r ∷ rs) = ⊥
+AreReadingsOf edition paths (s ∷ ss) [] = ⊥
+AreReadingsOf edition paths (s ∷ ss) (r ∷ rs) =
+    IsReadingOf edition paths s.bytes.items r × AreReadingsOf edition paths ss rs
 
--- of the package of that path with these files, `p` is what was read in the edition, and that is kept
+-- of the package of that path with these files, in which this is said of import paths, `p` is what was read in the
+-- edition, and that is kept
 pub record IsLoadedAs
-    (edition : Edition) (path : List ℕ) (sources : List Source) (p : LoadedPackage) (kept : KeptPackage)
+    (edition : Edition) (path : List ℕ) (paths : List MeantPath) (sources : List Source)
+    (p : LoadedPackage) (kept : KeptPackage)
     : Type 0 where
   pub tells : TellsPackage p kept
   pub is_path : p.path ≡ path
   pub is_edition : p.edition ≡ edition
   pub by_name : AreByName sources kept.sources.items
-  pub are_files : AreReadingsOf edition kept.sources.items p.files
+  pub are_files : AreReadingsOf edition paths kept.sources.items p.files
 
 -- What serves the proofs
 
@@ -103,6 +108,23 @@ trees_of (Err reading) = []
 
 abbrev pub IsParsed : Edition → Source → Parsed → Type 0
 IsParsed edition source parsed = IsKeptWith edition source.bytes.items (reading_of parsed) (trees_of parsed)
+
+-- the same with the imports that are meant
+abbrev pub MeansImports : Meant → Parsed → Parsed → Type 0
+MeansImports meant (Ok tree) (Ok other) = file_syntax other ≡ with_meant_imports meant (file_syntax tree)
+MeansImports meant (Ok tree) (Err reading) = ⊥
+MeansImports meant (Err reading) (Ok tree) = ⊥
+MeansImports meant (Err reading) (Err other) = other ≡ reading
+
+-- this became of the text of a file, in whose package this is said of import paths, and these are its trees
+abbrev pub IsMeantWith : Edition → List MeantPath → List ℕ → KeptReading → List File → Type 0
+IsMeantWith edition paths text kept.Tree (tree ∷ []) = IsMeantTree edition paths text (file_syntax tree)
+IsMeantWith edition paths text kept.Tree [] = ⊥
+IsMeantWith edition paths text kept.Tree (tree ∷ next ∷ trees) = ⊥
+IsMeantWith edition paths text (kept.NoTokens at why) [] = IsUnreadable text at why
+IsMeantWith edition paths text (kept.NoTokens at why) (tree ∷ trees) = ⊥
+IsMeantWith edition paths text (kept.NoTree at why) [] = IsUnparsed edition text at why
+IsMeantWith edition paths text (kept.NoTree at why) (tree ∷ trees) = ⊥
 
 abbrev pub fault_of_form : LeftOut → TreeFault
 fault_of_form form.TypeParameters = TypeParameters

@@ -7,6 +7,7 @@ ghost use Rattle.load.specs.FilesByName.{AreByName};
 ghost use Rattle.load.specs.GivenPackages.{IsReadAs};
 
 use crate::ahead::{Ahead, next_parsed};
+use crate::meant::with_meant_imports;
 use crate::packages::GivenPackage;
 use crate::source::keep;
 use lexer::Source;
@@ -22,7 +23,8 @@ pub fn by_name(sources: Vec<Source>) -> Result<Vec<Source>, AllocError>
     Ok(ordered)
 }
 
-/// The package with its files as they are read in its edition. Those that were read ahead are the next ones there.
+/// The package with its files as they are read in its edition, whose imports are of the paths that are meant. Those
+/// that were read ahead are the next ones there.
 ///
 /// # Errors
 ///
@@ -43,15 +45,14 @@ pub fn load_package(
         path,
         edition,
         sources,
+        imports,
     } = given;
     let mut readings = Vec::new(alloc);
     let mut trees = Vec::new(alloc);
     for source in &sources {
-        keep(
-            next_parsed(alloc, edition, source, ahead)?,
-            &mut readings,
-            &mut trees,
-        )?;
+        let parsed = next_parsed(alloc, edition, source, ahead)?;
+        let meant = with_meant_imports(alloc, edition, &imports, parsed)?;
+        keep(meant, &mut readings, &mut trees)?;
     }
     Ok(LoadedPackage {
         path,

@@ -7,6 +7,7 @@ ghost use Rattle.load.specs.Ahead.{files_of, AreReadAhead};
 ghost use Rattle.load.specs.GivenPackages.{entry_of, first_repeated, has_many_files, has_too_many, path_of, AreInOrder, AreLoadable, IsByName, IsLoad, IsLoadFault, IsReadAs, IsRepeated};
 
 use crate::ahead::{Ahead, nothing_ahead, read_ahead};
+use crate::meant::MeantImport;
 use crate::package::{by_name, load_package};
 use indexmap::IndexMap;
 use lexer::Source;
@@ -22,12 +23,22 @@ pub const MOST_PACKAGES: usize = 10_000;
 /// The most files of one package.
 pub const MOST_FILES: usize = u32::MAX as usize;
 
-/// A package that is to be loaded: its import path, the edition by which it is judged, and its Go files.
+/// A package that is to be loaded: its import path, the edition by which it is judged, its Go files, and what is said
+/// of the paths of their imports, where of equal written paths the first counts.
 #[derive(Debug, Drop)]
 pub struct GivenPackage {
     pub path: String,
     pub edition: Edition,
     pub sources: Vec<Source>,
+    pub imports: Vec<MeantImport>,
+}
+
+/// The same but for the path.
+#[derive(Drop)]
+pub struct PackageFiles {
+    pub edition: Edition,
+    pub sources: Vec<Source>,
+    pub imports: Vec<MeantImport>,
 }
 
 /// Why packages can't be loaded.
@@ -81,7 +92,7 @@ fn has_too_many(given: &[GivenPackage]) -> bool
 fn by_path(
     alloc: Global,
     given: Vec<GivenPackage>,
-) -> Result<IndexMap<String, (Edition, Vec<Source>)>, LoadFault>
+) -> Result<IndexMap<String, PackageFiles>, LoadFault>
     ensures entries { IfOk result (λ packages. packages.entries ≡ map entry_of given.items) }
     ensures distinct { IfOk result (λ packages. first_repeated [] (map path_of given.items) ≡ None) }
     ensures err { IfErr result (IsRepeated given.items) }
@@ -91,11 +102,17 @@ fn by_path(
         path,
         edition,
         sources,
+        imports,
     } in given {
         if packages.contains_key(&path) {
             return Err(LoadFault::TwoPackages(path));
         }
-        if packages.insert(path, (edition, sources)).is_err() {
+        let files = PackageFiles {
+            edition,
+            sources,
+            imports,
+        };
+        if packages.insert(path, files).is_err() {
             return Err(LoadFault::OutOfMemory);
         }
     }
@@ -105,17 +122,23 @@ fn by_path(
 /// Each of these packages, with its files in the order of their names.
 fn order_files(
     alloc: Global,
-    packages: IndexMap<String, (Edition, Vec<Source>)>,
+    packages: IndexMap<String, PackageFiles>,
 ) -> Result<Vec<GivenPackage>, AllocError>
     ensures { IfOk result (λ ordered. AllZip IsByName packages.entries ordered.items) }
 {
     let mut ordered = Vec::new(alloc);
-    for (path, (edition, sources)) in packages {
+    for (path, files) in packages {
+        let PackageFiles {
+            edition,
+            sources,
+            imports,
+        } = files;
         let sources = by_name(sources)?;
         ordered.push(GivenPackage {
             path,
             edition,
             sources,
+            imports,
         })?;
     }
     Ok(ordered)
@@ -124,7 +147,7 @@ fn order_files(
 /// The packages in the order of their paths, and their files in that of their names.
 fn in_order(
     alloc: Global,
-    packages: IndexMap<String, (Edition, Vec<Source>)>,
+    packages: IndexMap<String, PackageFiles>,
 ) -> Result<Vec<GivenPackage>, AllocError>
     ensures { IfOk result (λ ordered. AreInOrder packages.entries ordered.items) }
 {

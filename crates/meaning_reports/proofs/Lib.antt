@@ -2,6 +2,7 @@ pub mod CountedPackages
 pub mod EntryFiles
 pub mod EntryOrder
 pub mod ImportsOf
+pub mod MeantImports
 pub mod NumberedTrees
 pub mod OneAnswer
 pub mod OneReport

@@ -1,4 +1,5 @@
 -- What is to be said of packages: to be trusted.
+pub mod MeantImports
 pub mod MethodNames
 pub mod Loaded
 pub mod WholeFaults

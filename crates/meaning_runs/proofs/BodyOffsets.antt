@@ -5,7 +5,7 @@ use Rattle.std.proofs.lemmas.List.Elements.{Contains-append_cases}
 use Rattle.tree.specs.declared.operator.DeclKeyword.{DeclKeyword}
 use Rattle.tree.specs.declared.span.Span.{Span}
 use Rattle.tree.specs.Syntax.{Identifier, Parameters, Specs, no_spec, value_and, type_and, declaration_of, Block, Function, TopLevelDeclaration, function_declaration, general_declaration, ImportSpec, ImportDeclaration, SourceFile}
-use Rattle.meaning.specs.Mentions.{BodyPlace, Mark, mentions, defers_literal, returns, opens, closes, part_of, expressions_marks, expression_marks, optional_marks, signature_marks, statements_marks, declared_elsewhere, type_parameters_marks, receiver_marks, function_body, function_marks, outer_specs_marks, top_level_marks, top_levels_marks, file_marks, of_fields, imports_all, is_dot, import_marks}
+use Rattle.meaning.specs.Mentions.{BodyPlace, Mark, mentions, defers_literal, returns, opens, closes, part_of, expressions_marks, expression_marks, optional_marks, signature_marks, statements_marks, declared_elsewhere, type_parameters_marks, receiver_marks, function_body, function_marks, outer_specs_marks, top_level_marks, top_levels_marks, marks_by, file_marks, of_fields, imports_all, is_dot, import_marks}
 use Rattle.meaning.specs.Tracked.{Placed, outer, placed}
 use Rattle.tree.specs.declared.edition.Edition.{Edition}
 use Rattle.meaning.specs.Cursor.{GoText, read_in, ◌⨾◌, spanning, string_token}
@@ -15,7 +15,9 @@ use Rattle.meaning.specs.TreeOfText.{first_place, IsTreeOf}
 use Rattle.meaning.specs.Grammar.{as_type, as_expression, IsLast, type_parameters, SpellsTypeParameters, SpellsSpecs, SpellsDeclaration, SpellsImportSpec, SpellsImportSpecs, SpellsOneImport, SpellsImports, SpellsReceiver, SpellsBody, SpellsFunction, SpellsTopLevel, SpellsTopLevels, SpellsFile, import_name}
 use Rattle.meaning.proofs.Membership.{contains_nil, contains_here, contains_there, contains_cases}
 use Rattle.meaning.specs.BodyEvents.{opened_by, opened_in}
-use Rattle.meaning_runs.specs.BodyOffsets.{BodiesAreApart, BeginOnce, BodiesBeginOnce}
+use Rattle.meaning_reports.specs.MeantImports.{IsTreeButForImports}
+use Rattle.meaning_reports.proofs.MeantImports.{marks_there}
+use Rattle.meaning_runs.specs.BodyOffsets.{AreApart, BodiesAreApart, BeginOnce, BodiesBeginOnce}
 use Rattle.meaning_runs.proofs.LeftSides.{is_placed}
 use Rattle.meaning_runs.proofs.BodyOffsetsWithin.{AllBefore, OpenOnce}
 use Rattle.meaning_runs.proofs.BodyOffsetsTokens.{tokens_ordered, tokens_under}
@@ -185,8 +187,9 @@ opens_one ms b h =
 no_bodies_before : AllBefore 0 []
 no_bodies_before c h = absurd (contains_nil c h)
 
-pub bodies_are_apart : BodiesAreApart
-bodies_are_apart edition some_keep text tree t =
+apart_as_written : (edition : Edition) (some_keep : Bool) (text : List ℕ) (tree : SourceFile) → IsTreeOf edition text tree
+    → AreApart (placed [] (marks_by edition some_keep (file_marks tree)))
+apart_as_written edition some_keep text tree t =
     let g = whole_file (read_in edition text) tree (first_place t.tokens) t.last 0 tt (tokens_ordered text t.tokens t.cut) t.spelled in
     let w = g.within in
     let marks = file_marks tree in
@@ -198,6 +201,11 @@ bodies_are_apart edition some_keep text tree t =
           let opens_c = opens_one marks c (subst (λ (bs : List BodyPlace). Contains bs c) same_bodies second) in
           w.one_each b c opens_b opens_c same;
     }
+
+pub bodies_are_apart : BodiesAreApart
+bodies_are_apart edition some_keep text tree t =
+    subst (λ (ms : List Mark). AreApart (placed [] (marks_by edition some_keep ms))) (marks_there t.meant t.written tree t.same)
+    (apart_as_written edition some_keep text t.written t.is_tree)
 
 -- the bodies that the marks open, wherever these stand
 begin_once : (bodies : List BodyPlace) (ms : List Mark) → OpenOnce ms → BeginOnce (opened_in (placed bodies ms))
@@ -216,20 +224,28 @@ begin_once bodies (opens b ∷ ms) h = (
 )
 begin_once bodies (closes ∷ ms) h = begin_once (outer bodies) ms h.1
 
-pub bodies_begin_once : BodiesBeginOnce
-bodies_begin_once edition some_keep text tree t =
+once_as_written : (edition : Edition) (some_keep : Bool) (text : List ℕ) (tree : SourceFile) → IsTreeOf edition text tree
+    → BeginOnce (opened_in (placed [] (marks_by edition some_keep (file_marks tree))))
+once_as_written edition some_keep text tree t =
     let g = whole_file (read_in edition text) tree (first_place t.tokens) t.last 0 tt (tokens_ordered text t.tokens t.cut) t.spelled in
     subst BeginOnce (sym (same_opened edition some_keep (file_marks tree))) (begin_once [] (file_marks tree) g.within.once)
 
--- the sites of a file whose tree is the tree of a text
-pub record AreSited (text : List ℕ) (tree : SourceFile) : Type 0 where
+pub bodies_begin_once : BodiesBeginOnce
+bodies_begin_once edition some_keep text tree t =
+    subst (λ (ms : List Mark). BeginOnce (opened_in (placed [] (marks_by edition some_keep ms))))
+    (marks_there t.meant t.written tree t.same)
+    (once_as_written edition some_keep text t.written t.is_tree)
+
+-- the sites of a file whose tree has these marks and is the tree of a text
+pub record AreSited (text : List ℕ) (marks : List Mark) : Type 0 where
   pub end : ℕ
   pub in_text : end ≤ length text
-  pub sited : Sited no_site 0 end [] (file_marks tree)
-  pub begun : (b : BodyPlace) → Contains (file_marks tree) (opens b) → b.at < end
+  pub sited : Sited no_site 0 end [] marks
+  pub begun : (b : BodyPlace) → Contains marks (opens b) → b.at < end
 
-pub are_sited : (edition : Edition) (text : List ℕ) (tree : SourceFile) → IsTreeOf edition text tree → AreSited text tree
-are_sited edition text tree t =
+sited_as_written : (edition : Edition) (text : List ℕ) (tree : SourceFile) → IsTreeOf edition text tree
+    → AreSited text (file_marks tree)
+sited_as_written edition text tree t =
     let g = whole_file (read_in edition text) tree (first_place t.tokens) t.last 0 tt (tokens_ordered text t.tokens t.cut) t.spelled in
     let bounded = g.bounded (length text) (omega arith) (tokens_under text t.tokens t.cut) in
     record {
@@ -238,3 +254,8 @@ are_sited edition text tree t =
       sited = g.sited;
       begun = λ b among. (g.within.inside b among).1;
     }
+
+pub are_sited : (edition : Edition) (text : List ℕ) (tree : SourceFile) → IsTreeButForImports edition text tree
+    → AreSited text (file_marks tree)
+are_sited edition text tree t =
+    subst (AreSited text) (marks_there t.meant t.written tree t.same) (sited_as_written edition text t.written t.is_tree)

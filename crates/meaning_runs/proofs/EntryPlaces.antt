@@ -10,7 +10,6 @@ use Rattle.meaning.specs.Code.{Occurrence, Code, repeats}
 use Rattle.meaning.specs.Lists.{Exit, stopped, Lists, Reaches, not_begun, skipped, done, just_done, left, ends_in_first, goes_on, in_first, in_second, ends_in_turn, turns_again, arrives, passes}
 use Rattle.meaning.specs.Mentions.{BodyPlace, Mention, Mark, mentions, defers_literal, returns, opens, closes, file_marks, marks_by, of_fields}
 use Rattle.meaning.specs.Tracked.{Known, placed, some_keep}
-use Rattle.meaning.specs.TreeOfText.{IsTreeOf}
 use Rattle.meaning.specs.Uses.{Callee, Event, Seen}
 use Rattle.meaning.specs.BodyEvents.{opened_in, bodies_of, sites_of, seen_file}
 use Rattle.meaning.specs.Classes.{Promises}
@@ -19,6 +18,7 @@ use Rattle.meaning_packages.specs.PathFaults.{paths_of}
 use Rattle.meaning_packages.specs.Credits.{promises_in}
 use Rattle.meaning_packages.specs.CallsFlags.{FileWithCredits}
 use Rattle.report.specs.Entries.{Entry}
+use Rattle.meaning_reports.specs.MeantImports.{IsTreeButForImports}
 use Rattle.meaning_reports.specs.Loaded.{Reading, has_tree, has_text_fault, has_tree_fault, LoadedPackage, NumberedTree, Tables, trees_from, trees_of, known_in, seen_from, seen_files}
 use Rattle.meaning_reports.specs.WholeFaults.{HasNoWholeFault, has_no_tokens, has_no_tree}
 use Rattle.meaning_reports.specs.PackageTables.{AreCredited, no_file, file_and}
@@ -77,7 +77,7 @@ pub record Stands (n : ℕ) (seen : Seen) : Type 0 where
       → Reaches (paths_of seen promises b).code t o
       → o.at ≤ n
 
-module _ (text : List ℕ) (tree : SourceFile) (known : Known) (is : IsTreeOf known.edition text tree) where
+module _ (text : List ℕ) (tree : SourceFile) (known : Known) (is : IsTreeButForImports known.edition text tree) where
   site_in : (m : Mention) → Contains (file_marks tree) (mentions m) → m.site ≤ length text
   site_in m among =
       let file = are_sited known.edition text tree is in

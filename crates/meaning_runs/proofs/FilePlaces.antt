@@ -1,6 +1,6 @@
 -- The imports and the functions of the tree of a text have their places in the text, and so have the faults of whole
 -- packages.
-use Rattle.std.proofs.Common.{◌≡◌, ℕ, suc, ◌+◌, ◌≤◌, inl, inr, Bool, true, false, List, [], ◌∷◌, length, Option, Some, None, Contains, option_map, refl, sym, ap, ◌∙◌, subst, arith}
+use Rattle.std.proofs.Common.{◌≡◌, ℕ, suc, ◌+◌, ◌≤◌, inl, inr, Bool, true, false, List, [], ◌∷◌, map, length, Option, Some, None, Contains, option_map, refl, sym, ap, ◌∙◌, subst, arith}
 use Rattle.std.specs.Prelude.{slice_get, if◌then◌else◌}
 use Rattle.std.proofs.lemmas.Option.{same_Some, slice_get_within, get_or_from_slice_get, slice_get-map}
 use Rattle.std.proofs.lemmas.List.Elements.{Contains-append_cases}
@@ -17,9 +17,11 @@ use Rattle.meaning.specs.TreeOfText.{first_place, IsTreeOf}
 use Rattle.meaning.proofs.Membership.{contains_nil, contains_cases, contains_here, contains_there}
 use Rattle.report.specs.declared.codes.DiagnosticCode.{DiagnosticCode}
 use Rattle.report.specs.Entries.{Entry}
+use Rattle.meaning_reports.specs.MeantImports.{Meant, meant_import, with_meant_imports, IsTreeButForImports}
 use Rattle.meaning_reports.specs.Loaded.{Reading, has_tree, has_text_fault, has_tree_fault, LoadedPackage, NumberedTree, Tables, numbered_trees, trees_of, imports_of}
 use Rattle.meaning_reports.specs.WholeFaults.{ImportsAt, import_entry, IsWholeFault, has_no_tokens, has_no_tree, has_two_functions, has_no_rank}
 use Rattle.meaning_reports.specs.DotImports.{IsLeftOut, dot_entry}
+use Rattle.meaning_reports.proofs.MeantImports.{specs_meant}
 use Rattle.meaning_reports.proofs.NumberedTrees.{file_of}
 use Rattle.meaning_runs.specs.FilePlaces.{Fits, AreTextsOf, StandsIn, WholePlacesLieInFiles}
 use Rattle.meaning_runs.proofs.AskedSites.{CodeSite}
@@ -178,8 +180,8 @@ record LiesIn (text : List ℕ) (tree : SourceFile) : Type 0 where
   names : (i : ImportSpec) (name : Identifier) → Contains (imports_of tree) i → i.name ≡ Some name → name.span.start ≤ length text
   functions : (f : Function) → Contains tree.declarations (function_declaration f) → f.name.span.start ≤ length text
 
-lies_in : (edition : Edition) (text : List ℕ) (tree : SourceFile) → IsTreeOf edition text tree → LiesIn text tree
-lies_in edition bytes tree t =
+lies_as_written : (edition : Edition) (text : List ℕ) (tree : SourceFile) → IsTreeOf edition text tree → LiesIn text tree
+lies_as_written edition bytes tree t =
     let n = length bytes in
     let text : GoText = read_in edition bytes in
     let start : IsIn n (first_place t.tokens) = record {
@@ -199,6 +201,34 @@ lies_in edition bytes tree t =
           subst (NameIn n) is (imports_in n text tree.imports s.2.2.0 s.2.2.2.0 first s.2.2.2.1 i among).1;
       functions = functions_in n text tree.declarations s.2.2.2.0 t.last later s.2.2.2.2;
     }
+
+-- what is said of each import, and doesn't depend on its path, is said of those that are meant
+of_each_meant : (P : ImportSpec → Type 0) (meant : Meant) → ((s : ImportSpec) → P s → P (meant_import meant s))
+    → (ss : List ImportSpec) → ((i : ImportSpec) → Contains ss i → P i)
+    → (i : ImportSpec) → Contains (map (meant_import meant) ss) i
+    → P i
+of_each_meant P meant stays [] all i h = absurd (contains_nil i h)
+of_each_meant P meant stays (s ∷ ss) all i h = elim (contains_cases (meant_import meant s) i (map (meant_import meant) ss) h) [
+  | inl same ↦ subst P same (stays s (all s (contains_here s ss)))
+  | inr later ↦ of_each_meant P meant stays ss (λ j there. all j (contains_there s j ss there)) i later
+]
+
+lies_meant : (text : List ℕ) (meant : Meant) (tree : SourceFile) → LiesIn text tree → LiesIn text (with_meant_imports meant tree)
+lies_meant text meant tree l =
+    let there = λ (i : ImportSpec) (among : Contains (imports_of (with_meant_imports meant tree)) i).
+    subst (λ (ss : List ImportSpec). Contains ss i) (specs_meant meant tree.imports) among in
+    record {
+      imports = λ i among.
+          of_each_meant (λ s. s.path_span.start ≤ length text) meant (λ s low. low) (imports_of tree) l.imports i (there i among);
+      names = λ i name among is.
+          of_each_meant (λ s. (n : Identifier) → s.name ≡ Some n → n.span.start ≤ length text) meant (λ s low. low)
+          (imports_of tree) (λ s k n e. l.names s n k e) i (there i among) name is;
+      functions = l.functions;
+    }
+
+lies_in : (edition : Edition) (text : List ℕ) (tree : SourceFile) → IsTreeButForImports edition text tree → LiesIn text tree
+lies_in edition text tree t =
+    subst (LiesIn text) t.same (lies_meant text t.meant t.written (lies_as_written edition text t.written t.is_tree))
 
 -- The files of a package
 

@@ -1,5 +1,5 @@
 -- In the tree of a text the names of its marks stand in the text.
-use Rattle.std.proofs.Common.{ℕ, ◌≤◌, Bool, true, false, List, [], ◌∷◌, length, Option, Some, None, Contains, subst, inl, inr, arith}
+use Rattle.std.proofs.Common.{ℕ, ◌≤◌, Bool, true, false, List, [], ◌∷◌, length, Option, Some, None, Contains, subst, sym, inl, inr, arith}
 use Rattle.std.specs.Prelude.{if◌then◌else◌}
 use Rattle.lexer.specs.declared.token.Token.{Token}
 use Rattle.tree.specs.declared.operator.DeclKeyword.{DeclKeyword}
@@ -8,11 +8,12 @@ use Rattle.tree.specs.declared.edition.Edition.{Edition}
 use Rattle.meaning.specs.Cursor.{GoText, read_in}
 use Rattle.meaning.specs.OuterBlocks.{specs_of}
 use Rattle.meaning.specs.Scopes.{parameters_named, named_in_types}
-use Rattle.meaning.specs.Mentions.{part_of, expressions_marks, type_parameters_marks, receiver_marks, function_body, function_marks, outer_specs_marks, top_level_marks, top_levels_marks, file_marks, of_fields, imports_all, is_dot, import_marks}
+use Rattle.meaning.specs.Mentions.{Mark, part_of, expressions_marks, type_parameters_marks, receiver_marks, function_body, function_marks, outer_specs_marks, top_level_marks, top_levels_marks, file_marks, of_fields, imports_all, is_dot, import_marks}
 use Rattle.meaning.specs.TreeOfText.{first_place, IsTreeOf}
 use Rattle.meaning.specs.Grammar.{as_type, as_expression, type_parameters, SpellsTypeParameters, SpellsSpecs, SpellsDeclaration, SpellsImportSpec, SpellsImportSpecs, SpellsOneImport, SpellsImports, SpellsReceiver, SpellsFunction, SpellsTopLevel, SpellsTopLevels, SpellsFile}
 use Rattle.meaning.proofs.Membership.{contains_nil, contains_cases}
-use Rattle.meaning_runs.specs.NamePlaces.{ReceiverStandsWithin, NamesLieInTexts}
+use Rattle.meaning_reports.proofs.MeantImports.{marks_there}
+use Rattle.meaning_runs.specs.NamePlaces.{ReceiverStandsWithin, StandsWithin, NamesLieInTexts}
 use Rattle.meaning_runs.proofs.BodyOffsetsTokens.{Ordered, first_ordered, tokens_ordered, tokens_under}
 use Rattle.meaning_runs.proofs.BodyOffsetsSpelled.{no_expressions}
 use Rattle.meaning_runs.proofs.BodyOffsets.{no_outer_specs}
@@ -140,6 +141,13 @@ all_inside edition text tree t = record {
       (omega (arith, begins, under), under);
 }
 
+marks_lie : (edition : Edition) (text : List ℕ) (tree : SourceFile) (m : Mark) → IsTreeOf edition text tree
+    → Contains (file_marks tree) m
+    → StandsWithin (length text) m
+marks_lie edition text tree m t among =
+    (whole_file (read_in edition text) (length text) tree (first_place t.tokens) t.last (all_inside edition text tree t) t.spelled).holds.each m among
+
 pub names_lie_in_texts : NamesLieInTexts
 names_lie_in_texts edition text tree m t among =
-    (whole_file (read_in edition text) (length text) tree (first_place t.tokens) t.last (all_inside edition text tree t) t.spelled).holds.each m among
+    let same = marks_there t.meant t.written tree t.same in
+    marks_lie edition text t.written m t.is_tree (subst (λ (ms : List Mark). Contains ms m) (sym same) among)

@@ -6,8 +6,8 @@ use Rattle.tree.specs.declared.edition.Edition.{Edition}
 use Rattle.tree.specs.Syntax.{SourceFile}
 use Rattle.meaning.specs.Mentions.{BodyPlace, file_marks, marks_by}
 use Rattle.meaning.specs.Tracked.{Placed, placed}
-use Rattle.meaning.specs.TreeOfText.{IsTreeOf}
 use Rattle.meaning.specs.BodyEvents.{opened_in}
+use Rattle.meaning_reports.specs.MeantImports.{IsTreeButForImports}
 
 -- each of these bodies begins behind those that come after it in the list
 abbrev pub AreFalling : List BodyPlace → Type 0
@@ -22,7 +22,7 @@ pub record AreApart (marks : List Placed) : Type 0 where
 
 abbrev pub BodiesAreApart : Type 0
 BodiesAreApart = (edition : Edition) (some_keep : Bool) (text : List ℕ) (tree : SourceFile)
-    → IsTreeOf edition text tree
+    → IsTreeButForImports edition text tree
     → AreApart (placed [] (marks_by edition some_keep (file_marks tree)))
 
 -- no two of these bodies begin at one offset, so none comes twice in the list
@@ -32,5 +32,5 @@ BeginOnce (b ∷ bs) = ((c : BodyPlace) → Contains bs c → b.at ≡ c.at → 
 
 abbrev pub BodiesBeginOnce : Type 0
 BodiesBeginOnce = (edition : Edition) (some_keep : Bool) (text : List ℕ) (tree : SourceFile)
-    → IsTreeOf edition text tree
+    → IsTreeButForImports edition text tree
     → BeginOnce (opened_in (placed [] (marks_by edition some_keep (file_marks tree))))

@@ -3,15 +3,15 @@
 use Rattle.std.specs.Prelude.{ℕ, ◌≡◌, ◌≤◌, List, length, Some, slice_get}
 use Rattle.tree.specs.declared.edition.Edition.{Edition}
 use Rattle.tree.specs.Syntax.{ImportSpec}
-use Rattle.meaning.specs.TreeOfText.{IsTreeOf}
 use Rattle.report.specs.declared.codes.DiagnosticCode.{DiagnosticCode}
 use Rattle.report.specs.Entries.{Entry}
+use Rattle.meaning_reports.specs.MeantImports.{IsTreeButForImports}
 use Rattle.meaning_reports.specs.Loaded.{Reading, has_tree, has_text_fault, has_tree_fault, LoadedPackage}
 use Rattle.meaning_reports.specs.WholeFaults.{ImportsAt, import_entry, IsWholeFault}
 
 -- the file can have that text, in the edition
 abbrev pub Fits : Edition → List ℕ → Reading → Type 0
-Fits edition text (has_tree tree) = IsTreeOf edition text tree
+Fits edition text (has_tree tree) = IsTreeButForImports edition text tree
 Fits edition text (has_text_fault at why) = at ≤ length text
 Fits edition text (has_tree_fault at why) = at ≤ length text
 

@@ -6,7 +6,7 @@ use Rattle.std.specs.Prelude.{ℕ, ◌≤◌, List, Option, Some, None, Contains
 use Rattle.tree.specs.declared.edition.Edition.{Edition}
 use Rattle.tree.specs.Syntax.{Parameters, no_parameter, named_and, unnamed_and, name_alone_and, Signature, signature_of, SourceFile}
 use Rattle.meaning.specs.Mentions.{CallPlace, nowhere, as_statement, only_value, return_item, deferred, under_go, Role, elsewhere, as_key, pointed_to, called, called_in_brackets, argument, returned, left, names_type, new_literal, parameter_pointer, FieldMark, writes_field, Mark, mentions, of_fields, defers_literal, returns, opens, closes, file_marks, exposed, found_nil, found_error}
-use Rattle.meaning.specs.TreeOfText.{IsTreeOf}
+use Rattle.meaning_reports.specs.MeantImports.{IsTreeButForImports}
 
 -- the statement of the row whose only value stands there
 abbrev pub PlaceStandsWithin : ℕ → CallPlace → Type 0
@@ -62,6 +62,6 @@ StandsWithin n closes = Unit {0}
 
 abbrev pub NamesLieInTexts : Type 0
 NamesLieInTexts = (edition : Edition) (text : List ℕ) (tree : SourceFile) (m : Mark)
-    → IsTreeOf edition text tree
+    → IsTreeButForImports edition text tree
     → Contains (file_marks tree) m
     → StandsWithin (length text) m

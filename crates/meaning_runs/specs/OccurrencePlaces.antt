@@ -8,9 +8,9 @@ use Rattle.meaning.specs.Code.{Occurrence, Code, skip, does, leave, then_code, e
 use Rattle.meaning.specs.StatementCode.{Sites, body_code}
 use Rattle.meaning.specs.Mentions.{BodyPlace}
 use Rattle.meaning.specs.Tracked.{Known}
-use Rattle.meaning.specs.TreeOfText.{IsTreeOf}
 use Rattle.meaning.specs.BodyEvents.{bodies_of, seen_file}
 use Rattle.meaning_packages.specs.PathFaults.{block_of}
+use Rattle.meaning_reports.specs.MeantImports.{IsTreeButForImports}
 
 -- all of a code, the last one first
 abbrev pub occurrences : {E : Type 0} → Code E → List (Occurrence E)
@@ -34,7 +34,7 @@ pub record HavePlaces {E : Type 0} (os : List (Occurrence E)) : Type 0 where
 -- so it is of each body of the tree of a text, whatever its sites give
 abbrev pub OccurrencesHavePlaces : Type 0 → Type 0
 OccurrencesHavePlaces E = (text : List ℕ) (tree : SourceFile) (known : Known) (b : BodyPlace) (sites : Sites E)
-    → IsTreeOf known.edition text tree
+    → IsTreeButForImports known.edition text tree
     → Contains (bodies_of (seen_file known tree)) b
     → HavePlaces (occurrences (body_code sites (block_of b)))
 
@@ -42,7 +42,7 @@ OccurrencesHavePlaces E = (text : List ℕ) (tree : SourceFile) (known : Known) 
 abbrev pub OccurrencesLieInTexts : Type 0 → Type 0
 OccurrencesLieInTexts E = (text : List ℕ) (tree : SourceFile) (known : Known) (b : BodyPlace) (sites : Sites E)
     (o : Occurrence E)
-    → IsTreeOf known.edition text tree
+    → IsTreeButForImports known.edition text tree
     → Contains (bodies_of (seen_file known tree)) b
     → Contains (occurrences (body_code sites (block_of b))) o
     → o.at < length text

@@ -5,11 +5,11 @@
 -- most consistent flags, or full credits.
 use Rattle.std.specs.Prelude.{◌≡◌, ℕ, false, List, [], ◌∷◌, Some, slice_get, Contains}
 use Rattle.tree.specs.Syntax.{SourceFile}
-use Rattle.meaning.specs.TreeOfText.{IsTreeOf}
 use Rattle.meaning.specs.Uses.{Seen}
 use Rattle.meaning_packages.specs.Credits.{AreFairCredits}
 use Rattle.meaning_packages.specs.CallsFlags.{FileWithCredits, calls_by, AreConsistent}
 use Rattle.report.specs.Entries.{Entry}
+use Rattle.meaning_reports.specs.MeantImports.{IsTreeButForImports}
 use Rattle.meaning_reports.specs.Loaded.{LoadedPackage, HaveDistinctPaths, Tables, counts, counts_as_given, imported_flags, signatures_of, trees_of, seen_files}
 use Rattle.meaning_reports.specs.WholeFaults.{HasNoWholeFault}
 use Rattle.meaning_reports.specs.UsedImports.{Uses}
@@ -39,10 +39,11 @@ pub record IsWellKnown (ps : List LoadedPackage) (tables : Tables) (i : ℕ) (p 
   pub are_flags : AreConsistent files (imported_flags p tables) (tables p.path).calls
   pub are_signatures : (name : List ℕ) → (tables p.path).signatures name ≡ signatures_of ps p name
 
--- Each tree is that of a text, so that no two of its names or bodies stand at one offset.
+-- Each tree is that of a text but for the paths of its imports, so that no two of its names or bodies stand at one
+-- offset.
 abbrev pub AreTreesOfTexts : LoadedPackage → Type 0
 AreTreesOfTexts q =
-    (tree : SourceFile) → Contains (trees_of q) tree → (text : List ℕ) × IsTreeOf q.edition text tree
+    (tree : SourceFile) → Contains (trees_of q) tree → (text : List ℕ) × IsTreeButForImports q.edition text tree
 
 -- So it is of each package that runs, and these use none but such. Of packages that were not given is known what is
 -- declared of them. Of those that count as not given nothing is known.

@@ -4,13 +4,13 @@
 -- (The Go specification, "Statements", "Calls", "Return statements".)
 use Rattle.std.specs.Prelude.{◌≡◌, ℕ, Bool, true, false, if◌then◌else◌, ◌++◌, List, [], ◌∷◌, Some, None, Contains}
 use Rattle.tree.specs.Syntax.{SourceFile}
-use Rattle.meaning.specs.TreeOfText.{IsTreeOf}
 use Rattle.meaning.specs.Tracked.{Known}
 use Rattle.meaning.specs.BodyEvents.{seen_file}
 use Rattle.meaning.specs.Code.{Occurrence, Code}
 use Rattle.meaning.specs.Lists.{Exit, Lists}
 use Rattle.meaning.specs.Uses.{Event, other, obtain, obtain_kept, renew, keep, call_kept, defer_kept, give, give_field, clear, call, defer_call, pass, defer_pass, lend, start, try, wait, defer_wait, make, defer_literal, return_event}
 use Rattle.meaning.specs.BodyEvents.{bodies_of}
+use Rattle.meaning_reports.specs.MeantImports.{IsTreeButForImports}
 use Rattle.meaning_runs.specs.Bodies.{Program, Body, IsOf, IsOutermost, is_parameter_of, code_of}
 use Rattle.meaning_runs.specs.World.{Place, put_at, Store, runs, exits, Frame, World}
 use Rattle.meaning_runs.specs.Steps.{ComesTo, HasNoBody, Acts, moves_on, does_other, obtains_one, obtains_into, keeps_one, renews_object, calls_kept, saves_kept, gives_object, gives_in_field, clears_one, calls_one, saves_call, makes_group, tries_nothing, ends_wait, saves_wait, evaluates, evaluates_deferred, lends, makes_call, calls_outside, saves_pass, saves_literal, comes_to_return, runs_call, runs_pass, runs_literal, runs_wait, returns_now, Starts, ChangesMembers, starts_member, starts_stranger, starts_outside, starts_beside, leaves_group, Step, of_goroutine, of_members, of_environment}
@@ -186,12 +186,12 @@ ListsAreRun = (p : Program) (b : Body) (t : List (Occurrence Event)) (x : Exit)
 
 -- Lists of trees of texts
 
--- the tree of the body's file is that of a text
+-- the tree of the body's file is that of a text but for the paths of its imports
 pub record IsOfText (b : Body) : Type 0 where
   pub text : List ℕ
   pub tree : SourceFile
   pub known : Known
-  pub is_tree : IsTreeOf known.edition text tree
+  pub is_tree : IsTreeButForImports known.edition text tree
   pub is_file : b.file ≡ seen_file known tree
 
 -- So it is of each body of a package whose trees are those of texts, as the promise asks for.

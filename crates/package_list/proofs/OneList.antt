@@ -1,10 +1,10 @@
 -- A text has one answer.
-use Rattle.std.proofs.Common.{◌≡◌, inl, inr, ℕ, ◌∷◌, [], List, Some, None, refl, sym, ap, subst, ◌∙◌}
+use Rattle.std.proofs.Common.{◌≡◌, ◌≢◌, inl, inr, ℕ, ◌∷◌, [], List, Some, None, refl, sym, ap, subst, ◌∙◌}
 use Rattle.std.specs.List.{AllZip}
 use Rattle.serde_json.specs.Data.{Data}
 use Rattle.json_reading.specs.Standing.{SomeIs}
 use Rattle.package_list.specs.declared.fault.ListFault.{ListFault}
-use Rattle.package_list.specs.declared.fault.ListFault.TheVariants.{NotJson, WrongShape, Incomplete, OutOfMemory}
+use Rattle.package_list.specs.declared.fault.ListFault.TheVariants.{NotJson, WrongShape, Incomplete, Empty, OutOfMemory}
 use Rattle.package_list.specs.ListedValues.{PackageEntry}
 use Rattle.package_list.specs.ListLaws.{OneAnswer}
 use Rattle.package_list.specs.ListTexts.{first_incomplete, AreListedIn, IsJsonOf, IsListFault, IsNoJson, IsNoPackage, IsPackage}
@@ -66,17 +66,18 @@ module _ (text : List ℕ) (entries : List PackageEntry) (h : AreListedIn text e
   one_list others k =
       one_zip IsPackage one_package k.values others entries k.are_packages (packages_of k.values k.are_values)
 
-  no_fault : (fault : ListFault) → first_incomplete entries ≡ None → IsListFault text fault → fault ≡ OutOfMemory
-  no_fault NotJson complete is =
+  no_fault : (fault : ListFault) → entries ≢ [] → first_incomplete entries ≡ None → IsListFault text fault → fault ≡ OutOfMemory
+  no_fault NotJson some complete is =
       absurd (none_zip IsJsonOf IsNoJson no_value (pieces text) h.values is h.are_values)
-  no_fault WrongShape complete is =
+  no_fault WrongShape some complete is =
       absurd (none_zip IsPackage IsNoPackage no_package is.0 entries is.2 (packages_of is.0 is.1))
-  no_fault (Incomplete path) complete is =
+  no_fault (Incomplete path) some complete is =
       absurd (some_none (sym is.2 ∙ ap first_incomplete (one_list is.0 is.1) ∙ complete))
-  no_fault OutOfMemory complete is = refl
+  no_fault Empty some complete is = absurd (some (sym (one_list [] is)))
+  no_fault OutOfMemory some complete is = refl
 
 pub one_answer : OneAnswer
 one_answer = record {
   one_list = λ text entries others h k. one_list text entries h others k;
-  no_fault = λ text entries fault h complete is. no_fault text entries h fault complete is;
+  no_fault = λ text entries fault h some complete is. no_fault text entries h fault some complete is;
 }

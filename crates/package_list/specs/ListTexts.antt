@@ -6,7 +6,7 @@ use Rattle.serde_json.specs.Data.{Data}
 use Rattle.serde_json.specs.Read.{read}
 use Rattle.json_reading.specs.Standing.{SomeIs}
 use Rattle.package_list.specs.declared.fault.ListFault.{ListFault}
-use Rattle.package_list.specs.declared.fault.ListFault.TheVariants.{NotJson, WrongShape, Incomplete, OutOfMemory}
+use Rattle.package_list.specs.declared.fault.ListFault.TheVariants.{NotJson, WrongShape, Incomplete, Empty, OutOfMemory}
 use Rattle.package_list.specs.ListedValues.{PackageEntry, package_in}
 use Rattle.package_list.specs.Pieces.{pieces}
 
@@ -46,4 +46,5 @@ IsListFault text NotJson = SomeIs IsNoJson (pieces text)
 IsListFault text WrongShape = (values : List Data) × AreValuesIn text values × SomeIs IsNoPackage values
 IsListFault text (Incomplete path) =
     (entries : List PackageEntry) × AreListedIn text entries × (first_incomplete entries ≡ Some (string_bytes path))
+IsListFault text Empty = AreListedIn text []
 IsListFault text OutOfMemory = ⊤

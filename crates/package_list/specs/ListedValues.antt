@@ -1,10 +1,19 @@
--- What the go command says of a package, and which value says it. Of an object six keys count, and others are passed
+-- What the go command says of a package, and which value says it. Of an object eight keys count, and others are passed
 -- over. An object of `serde_json` has each key once: of equal keys of a text the last one counts. What the keys mean
 -- says `go help list`.
 use Rattle.std.specs.Prelude.{ℕ, Bool, false, List, [], ◌∷◌, ◌++◌, Option, Some, None, map, option_and_then, option_map, codes, string_bytes}
-use Rattle.serde_json.specs.Data.{Data, Items, no_items, item}
-use Rattle.serde_json.specs.Find.{as_array, as_bool, as_str, get}
+use Rattle.serde_json.specs.Data.{Data, Items, no_items, item, Members, no_members, member}
+use Rattle.serde_json.specs.Find.{as_array, as_bool, as_object, as_str, get}
+use Rattle.package_list.specs.declared.package.ListedImport.{ListedImport}
 use Rattle.package_list.specs.declared.package.ListedPackage.{ListedPackage}
+
+-- a path that the files of a package import, and what it means
+pub record ImportEntry : Type 0 where
+  pub written : List ℕ
+  pub meant : List ℕ
+
+abbrev pub import_of : ListedImport → ImportEntry
+import_of i = record { written = string_bytes i.written; meant = string_bytes i.meant }
 
 -- one package of a list
 pub record PackageEntry : Type 0 where
@@ -13,6 +22,8 @@ pub record PackageEntry : Type 0 where
   pub files : List (List ℕ)
   pub module_path : Option (List ℕ)
   pub incomplete : Bool
+  pub dep_only : Bool
+  pub imports : List ImportEntry
 
 abbrev pub package_of : ListedPackage → PackageEntry
 package_of p = record {
@@ -21,6 +32,8 @@ package_of p = record {
   files = map string_bytes p.files.items;
   module_path = option_map string_bytes p.«module»;
   incomplete = p.incomplete;
+  dep_only = p.dep_only;
+  imports = map import_of p.imports.items;
 }
 
 -- What stands under a key that counts, or is missing
@@ -58,6 +71,19 @@ abbrev pub bool_under : Option Data → Option Bool
 bool_under None = Some false
 bool_under (Some value) = as_bool value
 
+-- an object of strings, whose keys stand in the order of their bytes, each once; a missing one is empty
+abbrev pub imports_of : Members → Option (List ImportEntry)
+imports_of no_members = Some []
+imports_of (member key value ms) =
+    option_and_then (λ s. option_map (λ is. record { written = key; meant = s } ∷ is) (imports_of ms)) (as_str value)
+
+abbrev pub imports_in : Data → Option (List ImportEntry)
+imports_in value = option_and_then imports_of (as_object value)
+
+abbrev pub imports_under : Option Data → Option (List ImportEntry)
+imports_under None = Some []
+imports_under (Some value) = imports_in value
+
 -- a step of what follows
 infixl 10 ◌>>=◌
 abbrev pub ◌>>=◌ : {X Y : Type 0} → Option X → (X → Option Y) → Option Y
@@ -72,10 +98,14 @@ package_in value = do
   cgo_files ← strings_under (get (codes "CgoFiles") value)
   module_path ← module_under (get (codes "Module") value)
   incomplete ← bool_under (get (codes "Incomplete") value)
+  dep_only ← bool_under (get (codes "DepOnly") value)
+  imports ← imports_under (get (codes "ImportMap") value)
   Some (record {
     path = path;
     folder = folder;
     files = go_files ++ cgo_files;
     module_path = module_path;
     incomplete = incomplete;
+    dep_only = dep_only;
+    imports = imports;
   })

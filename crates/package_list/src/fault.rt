@@ -12,6 +12,8 @@ pub enum ListFault {
     WrongShape,
     /// The go command could not load a package, or one below it; this is the path of the first such package.
     Incomplete(String),
+    /// There is no package.
+    Empty,
     /// Memory was refused.
     OutOfMemory,
 }

@@ -9,6 +9,7 @@ ghost use Rattle.package_list.specs.ListLaws.{OneAnswer};
 mod blanks;
 mod cut;
 mod fault;
+mod import_map;
 mod list;
 mod listed;
 mod members;
@@ -17,14 +18,15 @@ mod strings;
 
 pub use fault::ListFault;
 pub use list::read_list;
-pub use package::ListedPackage;
+pub use package::{ListedImport, ListedPackage};
 
 /// How short texts are cut into values, where a reader may doubt it.
 pub fn texts_are_cut()
     ensures { CutExamples }
 {}
 
-/// A text lists packages in one way at most, and one that lists complete packages is refused for want of memory alone.
+/// A text lists packages in one way at most, and one that lists some, all complete, is refused for want of memory
+/// alone.
 pub fn one_answer()
     ensures { OneAnswer }
 {}

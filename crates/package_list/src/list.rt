@@ -1,6 +1,6 @@
 //! The packages of a list.
 
-ghost use Rattle.std.specs.Prelude.{◌≡◌, None, IfErr, IfOk, map, option_map};
+ghost use Rattle.std.specs.Prelude.{◌≡◌, ◌≢◌, [], None, IfErr, IfOk, map, option_map};
 ghost use Rattle.package_list.specs.ListedValues.{package_of};
 ghost use Rattle.package_list.specs.ListRead.{one_more, AreJudged, RefusesPieces};
 ghost use Rattle.package_list.specs.ListTexts.{first_incomplete, AreListedIn, IsListFault};
@@ -59,22 +59,26 @@ fn first_incomplete(packages: &[ListedPackage]) -> Option<&str>
 
 /// The packages that a text lists: the output of `go list -json`, JSON values one after another. They stand in its
 /// order, and one that is listed twice stands twice. Of the values the go command's `ImportPath`, `Dir`, `GoFiles`,
-/// `CgoFiles`, the `Path` of `Module`, and `Incomplete` count; other keys are passed over, and of equal keys the last
-/// counts. A text without values lists none.
+/// `CgoFiles`, the `Path` of `Module`, `Incomplete` and `DepOnly` count; other keys are passed over, and of equal keys
+/// the last counts.
 ///
 /// # Errors
 ///
 /// A value is not UTF-8 or no JSON; a value is that of no package, as `ImportPath` or `Dir` is missing or empty, or a
-/// key that counts has a value of another kind; a package is incomplete; or memory was refused. This is the order in
-/// which it is looked for them.
+/// key that counts has a value of another kind; a package is incomplete; there is no package; or memory was refused.
+/// This is the order in which it is looked for them.
 pub fn read_list(alloc: Global, bytes: &[u8]) -> Result<Vec<ListedPackage>, ListFault>
     ensures listed { IfOk result (λ found. AreListedIn bytes.now (map package_of found.items)) }
     ensures complete { IfOk result (λ found. first_incomplete (map package_of found.items) ≡ None) }
+    ensures some { IfOk result (λ found. map package_of found.items ≢ []) }
     ensures fault { IfErr result (IsListFault bytes.now) }
 {
     let Some(packages) = read_pieces(alloc, bytes)? else {
         return Err(ListFault::WrongShape);
     };
+    if packages.is_empty() {
+        return Err(ListFault::Empty);
+    }
     match first_incomplete(&packages) {
         Some(path) => Err(ListFault::Incomplete(String::from_str(alloc, path)?)),
         None => Ok(packages),

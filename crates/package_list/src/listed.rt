@@ -2,12 +2,12 @@
 
 ghost use Rattle.std.specs.Prelude.{◌≡◌, Bool, List, ℕ, Option, IfErr, IfOk, map, option_map, string_bytes};
 ghost use Rattle.serde_json.specs.Data.{Data};
-ghost use Rattle.package_list.specs.ListedValues.{package_in, package_of};
+ghost use Rattle.package_list.specs.ListedValues.{import_of, package_in, package_of};
 ghost use Rattle.package_list.specs.ListRead.{package_with, RefusesPiece};
 ghost use Rattle.package_list.specs.ListTexts.{IsJsonOf};
 
 use crate::members::PackageMembers;
-use crate::package::ListedPackage;
+use crate::package::{ListedImport, ListedPackage};
 use crate::strings::both_lists;
 use json::Reader;
 use json_reading::{ReadItem, Stop, read_object, read_whole};
@@ -21,10 +21,13 @@ fn package_with(
     files: Option<Vec<String>>,
     module_path: Option<Option<String>>,
     incomplete: Option<bool>,
+    dep_only: Option<bool>,
+    imports: Option<Vec<ListedImport>>,
 ) -> Option<ListedPackage>
     ensures { option_map package_of result ≡ package_with (option_map string_bytes path)
         (option_map string_bytes folder) (option_map (λ list. map string_bytes list.items) files)
-        (option_map (option_map string_bytes) module_path) incomplete }
+        (option_map (option_map string_bytes) module_path) incomplete dep_only
+        (option_map (λ list. map import_of list.items) imports) }
 {
     Some(ListedPackage {
         path: path?,
@@ -32,6 +35,8 @@ fn package_with(
         files: files?,
         module: module_path?,
         incomplete: incomplete?,
+        dep_only: dep_only?,
+        imports: imports?,
     })
 }
 
@@ -66,6 +71,8 @@ impl ReadItem for Package {
             files,
             members.module_path,
             members.incomplete,
+            members.dep_only,
+            members.imports,
         ))
     }
 }

@@ -1,5 +1,7 @@
 //! The members of a package.
 
+use crate::import_map::read_imports;
+use crate::package::ListedImport;
 use crate::strings::{read_bool, read_filled, read_module, read_strings};
 use json::Reader;
 use json_reading::{ReadMember, Stop, pass_value};
@@ -15,6 +17,8 @@ pub(crate) struct PackageMembers {
     /// The path of the module, where there is one.
     pub module_path: Option<Option<String>>,
     pub incomplete: Option<bool>,
+    pub dep_only: Option<bool>,
+    pub imports: Option<Vec<ListedImport>>,
 }
 
 impl PackageMembers {
@@ -32,6 +36,8 @@ impl PackageMembers {
             cgo_files: Some(Vec::new(alloc)),
             module_path: Some(None),
             incomplete: Some(false),
+            dep_only: Some(false),
+            imports: Some(Vec::new(alloc)),
         }
     }
 }
@@ -60,6 +66,10 @@ impl ReadMember for PackageMembers {
             self.module_path = read_module(alloc, reader, depth)?;
         } else if key == "Incomplete" {
             self.incomplete = read_bool(reader, depth)?;
+        } else if key == "DepOnly" {
+            self.dep_only = read_bool(reader, depth)?;
+        } else if key == "ImportMap" {
+            self.imports = read_imports(alloc, reader, depth)?;
         } else {
             pass_value(reader, depth)?;
         }

@@ -1,5 +1,12 @@
 //! One package of a list.
 
+/// A path that the files of a package import, and the path of the package that it means, as the go command writes it.
+#[derive(Debug, Drop, PartialEq)]
+pub struct ListedImport {
+    pub written: String,
+    pub meant: String,
+}
+
 /// What the go command says of one package.
 #[derive(Debug, Drop, PartialEq)]
 pub struct ListedPackage {
@@ -13,4 +20,8 @@ pub struct ListedPackage {
     pub module: Option<String>,
     /// Whether the go command could not load it, or a package below it.
     pub incomplete: bool,
+    /// Whether it was not asked for, but stands below one that was.
+    pub dep_only: bool,
+    /// What it says of import paths, in the order of their bytes. No path comes twice.
+    pub imports: Vec<ListedImport>,
 }

@@ -1,5 +1,6 @@
 -- The text of a report as JSON, cut into what is put.
-use Rattle.std.proofs.Common.{◌≡◌, ℕ, Option, Some, None, List, [], ◌∷◌, ◌++◌, map, decimal, codes, Bool, true, false, slice_get, refl, sym, ap, ◌∙◌}
+use Rattle.std.proofs.Common.{◌≡◌, ℕ, ◌+◌, ◌<◌, ◌≤◌, length, get_or, take, drop, Option, Some, None, List, [], ◌∷◌, ◌++◌, map, decimal, codes, Bool, true, false, slice_get, refl, sym, ap, ◌∙◌}
+use Rattle.std.proofs.lemmas.List.{append_assoc, drop_all, drop_more, take_more}
 use Rattle.std.proofs.lemmas.Simd.{map-map}
 use Rattle.std.specs.Borrow.{Bor}
 use Rattle.std.specs.Prelude.{option_map}
@@ -22,23 +23,21 @@ use Rattle.report.specs.declared.codes.Wording.{Wording}
 use Rattle.report.specs.declared.codes.Wording.TheVariants.{First, Second}
 use Rattle.report.specs.declared.notes.Note.{Note}
 use Rattle.report.specs.declared.notes.NoteText.{NoteText}
-use Rattle.report_formats.specs.Pieces.{IsByteRegion, json_end, listed, members_listed, opened}
-use Rattle.report_formats.specs.Objects.{items_of, list_of, object_of}
-use Rattle.report_formats.specs.JsonText.{byte_end, byte_place, code_members, end_members, kind_members, place_members_at, place_members, said_members, reason_members, version_members, why_members, finding_value, verdict_members, package_value, note_value, json_of, json_text}
-use Rattle.report_formats.specs.NameEnds.{told_end}
+use Rattle.format_parts.specs.Pieces.{listed, members_listed, opened}
+use Rattle.report_formats.specs.Pieces.{IsByteRegion, json_end}
+use Rattle.format_parts.specs.Objects.{items_of, list_of, object_of}
+use Rattle.report_formats.specs.JsonText.{byte_end, byte_place, code_members, end_members, kind_members, place_members_at, place_members, said_members, reason_members, version_members, why_members, finding_value, verdict_members, package_value, note_value, note_values, json_of, json_text}
+use Rattle.format_parts.specs.Fixes.{fix_members, told_fix}
+use Rattle.format_parts.specs.NameEnds.{told_end}
+use Rattle.report_formats.specs.InFunctions.{around_members}
 use Rattle.report_formats.specs.NoteKinds.{kind_text, taken_in, taken_members}
-use Rattle.report_formats.specs.Told.{notes_told, reason_text}
-use Rattle.report_formats.specs.declared.ends.Region.{Region}
-use Rattle.report_formats.specs.declared.style.Style.{Style}
-use Rattle.report_formats.proofs.NoteParts.{escaped_then}
-use Rattle.report_formats.proofs.Values.{items_then, joined, value_then_is, value_is, items_then_listed, listed_is, listed_then, listed_then_is, listed_then_parts, opened_then, opened_is, object_parts, more_parts, last_parts}
-
--- what stands for a finding in memory, and for a package
-abbrev pub finding_data : Style → List Source → Finding → Data
-finding_data style sources f = finding_value style sources (finding_view f)
-
-abbrev pub package_data : Style → FoundPackage → Data
-package_data style p = package_value style (found_view p)
+use Rattle.report_formats.specs.Turns.{told_turn, turn_members}
+use Rattle.format_parts.specs.Told.{notes_told, reason_text}
+use Rattle.format_parts.specs.declared.ends.Region.{Region}
+use Rattle.format_parts.specs.declared.style.Style.{Style}
+use Rattle.suggested_fixes.specs.declared.edits.Fix.{Fix}
+use Rattle.format_parts.proofs.NoteParts.{escaped_then}
+use Rattle.format_parts.proofs.Values.{items_then, joined, value_then_is, value_is, items_then_listed, listed_is, listed_then, listed_then_is, listed_then_parts, opened_then, opened_is, object_parts, more_parts, last_parts}
 
 -- a place behind its comma
 abbrev pub place_pieces : (comma file : List ℕ) (line column : ℕ) → List (List ℕ)
@@ -83,15 +82,6 @@ end_is end place e = rw e (end_here place)
 pub no_end : (end : Option Place) → end ≡ None → members_listed true (end_members end) ≡ []
 no_end end e = rw e refl
 
--- a finding behind its comma: what is said, the reason for which it is accepted, and its notes
-pub finding_is : (later : Bool) (style : Style) (sources : List Source) (f : FindingEntry) → comma_if later ++ compact_text (finding_value style sources f) ≡ opened later (said_members style.wording (slice_get sources f.said.file) f.said) ++ (members_listed true (reason_members f.accepted) ++ (members_listed true (why_members style.with_reasons style.wording (notes_told style f)) ++ codes "}"))
-finding_is later style sources f =
-    let said = said_members style.wording (slice_get sources f.said.file) f.said in
-    let reason = reason_members f.accepted in
-    let why = why_members style.with_reasons style.wording (notes_told style f) in
-    object_parts later said (reason ++ why)
-    ∙ ap (λ t. opened later said ++ t) (more_parts reason why [] ∙ ap (λ t. members_listed true reason ++ t) (last_parts why []))
-
 -- the reason, in its string
 reason_here : (by : AcceptedBy) → members_listed true (reason_members (Some by)) ≡ codes ",\"accepted\":\"" ++ (escape (reason_text by) ++ codes "\"")
 unfolding escape_byte
@@ -104,13 +94,13 @@ pub no_reason : (accepted : Option AcceptedBy) → accepted ≡ None → members
 no_reason accepted a = rw a refl
 
 -- its notes
-why_here : (wording : Wording) (notes : List Note) → members_listed true (why_members true wording notes) ≡ codes ",\"why\":[" ++ (listed false (map (note_value wording) notes) ++ codes "]")
+why_here : (wording : Wording) (notes : List Note) → members_listed true (why_members true wording notes) ≡ codes ",\"why\":[" ++ (listed false (note_values wording [] notes) ++ codes "]")
 unfolding escape_byte
 why_here wording notes =
     listed_is true (why_members true wording notes)
-    ∙ ap (λ t. codes ",\"why\":[" ++ t) (items_then_listed false (map (note_value wording) notes) [])
+    ∙ ap (λ t. codes ",\"why\":[" ++ t) (items_then_listed false (note_values wording [] notes) [])
 
-pub why_is : (asked : Bool) (wording : Wording) (notes told : List Note) → asked ≡ true → told ≡ notes → members_listed true (why_members asked wording notes) ≡ codes ",\"why\":[" ++ (listed false (map (note_value wording) told) ++ codes "]")
+pub why_is : (asked : Bool) (wording : Wording) (notes told : List Note) → asked ≡ true → told ≡ notes → members_listed true (why_members asked wording notes) ≡ codes ",\"why\":[" ++ (listed false (note_values wording [] told) ++ codes "]")
 why_is asked wording notes told a t = rw (a, t) (why_here wording notes)
 
 pub no_why : (asked : Bool) (wording : Wording) (notes : List Note) → asked ≡ false → members_listed true (why_members asked wording notes) ≡ []
@@ -121,20 +111,49 @@ abbrev pub note_pieces : (a b c d e : List ℕ) → List (List ℕ)
 note_pieces a b c d e =
     codes ",\"text\":\"" ∷ escape a ∷ escape b ∷ escape c ∷ escape d ∷ escape e ∷ codes "\"}" ∷ []
 
-note_here : (later : Bool) (wording : Wording) (n : Note) (a b c d e : List ℕ) → a ++ (b ++ (c ++ (d ++ e))) ≡ note_words wording n.text → comma_if later ++ compact_text (note_value wording n) ≡ opened later (place_members (source_of n) n.offset) ++ (members_listed true (kind_members wording n.text) ++ joined (note_pieces a b c d e) [])
+note_here : (later : Bool) (wording : Wording) (behind : List Note) (n : Note) (a b c d e : List ℕ) → a ++ (b ++ (c ++ (d ++ e))) ≡ note_words wording n.text → comma_if later ++ compact_text (note_value wording behind n) ≡ opened later (place_members (source_of n) n.offset) ++ (members_listed true (kind_members wording n.text) ++ (members_listed true (turn_members (told_turn wording behind n)) ++ joined (note_pieces a b c d e) []))
 unfolding escape_byte
-note_here later wording n a b c d e are =
+note_here later wording behind n a b c d e are =
     let before = place_members (source_of n) n.offset in
     let kind = kind_members wording n.text in
+    let turn = turn_members (told_turn wording behind n) in
     let last = (codes "text", string (note_words wording n.text)) ∷ [] in
-    object_parts later before (kind ++ last)
+    object_parts later before (kind ++ (turn ++ last))
     ∙ ap (λ t. opened later before ++ t)
-    (more_parts kind last []
-    ∙ ap (λ t. members_listed true kind ++ (codes ",\"text\":\"" ++ t)) (escaped_then a b c d e (note_words wording n.text) (codes "\"}") are))
+    (more_parts kind (turn ++ last) []
+    ∙ ap (λ t. members_listed true kind ++ t)
+    (more_parts turn last []
+    ∙ ap (λ t. members_listed true turn ++ (codes ",\"text\":\"" ++ t)) (escaped_then a b c d e (note_words wording n.text) (codes "\"}") are)))
 
-pub note_is : (later : Bool) (wording : Wording) (n : Note) (file : List ℕ) (line column : ℕ) (a b c d e : List ℕ) → file ≡ name_of (source_of n) → line ≡ line_of (bytes_of (source_of n)) n.offset → column ≡ column_of (bytes_of (source_of n)) n.offset → a ++ (b ++ (c ++ (d ++ e))) ≡ note_words wording n.text → comma_if later ++ compact_text (note_value wording n) ≡ opened later (place_members_at file line column) ++ (members_listed true (kind_members wording n.text) ++ joined (note_pieces a b c d e) [])
-note_is later wording n file line column a b c d e f l o are =
-    rw (f, l, o) (note_here later wording n a b c d e are)
+pub note_is : (later : Bool) (wording : Wording) (behind : List Note) (n : Note) (file : List ℕ) (line column : ℕ) (turn : Option ℕ) (a b c d e : List ℕ) → file ≡ name_of (source_of n) → line ≡ line_of (bytes_of (source_of n)) n.offset → column ≡ column_of (bytes_of (source_of n)) n.offset → turn ≡ told_turn wording behind n → a ++ (b ++ (c ++ (d ++ e))) ≡ note_words wording n.text → comma_if later ++ compact_text (note_value wording behind n) ≡ opened later (place_members_at file line column) ++ (members_listed true (kind_members wording n.text) ++ (members_listed true (turn_members turn) ++ joined (note_pieces a b c d e) []))
+note_is later wording behind n file line column turn a b c d e f l o t are =
+    rw (f, l, o, t) (note_here later wording behind n a b c d e are)
+
+-- the next note of a list, and the rest
+pub next_note : (wording : Wording) (later : Bool) (notes : List Note) (i : ℕ) (n : Note) (before : List Note) → i < length notes → n ≡ get_or notes i n → before ≡ take i notes → listed later (note_values wording (take i notes) (drop i notes)) ≡ (comma_if later ++ compact_text (note_value wording before n)) ++ listed true (note_values wording (take (i + 1) notes) (drop (i + 1) notes))
+next_note wording later notes i n before inside there is =
+    let x = get_or notes i n in
+    let rest = drop (i + 1) notes in
+    let cut : listed later (note_values wording (take i notes) (drop i notes)) ≡ comma_if later ++ (compact_text (note_value wording (take i notes) x) ++ listed true (note_values wording (take (i + 1) notes) rest))
+    = ap (λ l. listed later (note_values wording (take i notes) l)) (drop_more notes i n inside)
+    ∙ ap (λ l. comma_if later ++ (compact_text (note_value wording (take i notes) x) ++ listed true (note_values wording l rest))) (sym (take_more notes i n inside)) in
+    cut
+    ∙ sym (append_assoc (comma_if later) (compact_text (note_value wording (take i notes) x)) (listed true (note_values wording (take (i + 1) notes) rest)))
+    ∙ (λ k. (comma_if later ++ compact_text (note_value wording (sym is k) (sym there k))) ++ listed true (note_values wording (take (i + 1) notes) rest))
+
+pub none_noted : (wording : Wording) (later : Bool) (notes : List Note) (i : ℕ) → length notes ≤ i → listed later (note_values wording (take i notes) (drop i notes)) ≡ []
+none_noted wording later notes i over = ap (λ l. listed later (note_values wording (take i notes) l)) (drop_all i notes over)
+
+-- the turn that a note tells
+turn_here : (turn : ℕ) → members_listed true (turn_members (Some turn)) ≡ joined (codes ",\"turn\":" ∷ decimal turn ∷ []) []
+unfolding escape_byte
+turn_here turn = listed_is true (turn_members (Some turn))
+
+pub turn_is : (told : Option ℕ) (turn : ℕ) → told ≡ Some turn → members_listed true (turn_members told) ≡ joined (codes ",\"turn\":" ∷ decimal turn ∷ []) []
+turn_is told turn t = rw t (turn_here turn)
+
+pub no_turn : (told : Option ℕ) → told ≡ None → members_listed true (turn_members told) ≡ []
+no_turn told t = rw t refl
 
 -- of which kind a note is
 kind_here : (text : NoteText) → members_listed true (kind_members Second text) ≡ joined (codes ",\"kind\":\"" ∷ escape (kind_text text) ∷ codes "\"" ∷ members_listed true (taken_members (taken_in text)) ∷ []) []
@@ -203,24 +222,13 @@ diagnostics_here ds =
     sym (last_parts ((codes "diagnostics", list_of ds) ∷ []) [])
     ∙ ap (λ t. codes ",\"diagnostics\":[" ++ t) (items_then_listed false ds (codes "}"))
 
-package_here : (later : Bool) (path : List ℕ) (verdict : Verdict) (keeping : List (List ℕ)) (ds : List Data) → comma_if later ++ compact_text (object_of ((codes "path", string path) ∷ (verdict_members verdict keeping ++ ((codes "diagnostics", list_of ds) ∷ [])))) ≡ joined (path_pieces (comma_if later) path) [] ++ (members_listed true (verdict_members verdict keeping) ++ (codes ",\"diagnostics\":[" ++ (listed false ds ++ codes "]}")))
+pub package_here : (later : Bool) (path : List ℕ) (verdict : Verdict) (keeping : List (List ℕ)) (ds : List Data) → comma_if later ++ compact_text (object_of ((codes "path", string path) ∷ (verdict_members verdict keeping ++ ((codes "diagnostics", list_of ds) ∷ [])))) ≡ joined (path_pieces (comma_if later) path) [] ++ (members_listed true (verdict_members verdict keeping) ++ (codes ",\"diagnostics\":[" ++ (listed false ds ++ codes "]}")))
 package_here later path verdict keeping ds =
     let said = verdict_members verdict keeping in
     let last = (codes "diagnostics", list_of ds) ∷ [] in
     object_parts later ((codes "path", string path) ∷ []) (said ++ last)
     ∙ (ap (λ t. opened later ((codes "path", string path) ∷ []) ++ t) (more_parts said last [] ∙ ap (λ t. members_listed true said ++ t) (last_parts last [] ∙ diagnostics_here ds))
     ∙ ap (λ t. t ++ (members_listed true said ++ (codes ",\"diagnostics\":[" ++ (listed false ds ++ codes "]}")))) (path_here later path))
-
-package_seen : (later : Bool) (style : Style) (p : FoundPackage) → comma_if later ++ compact_text (package_value style (found_view p)) ≡ joined (path_pieces (comma_if later) p.path.now) [] ++ (members_listed true (verdict_members (verdict_of (map finding_view p.findings.items)) (texts_of p.keeping.items)) ++ (codes ",\"diagnostics\":[" ++ (listed false (map (finding_data style p.sources.now) p.findings.items) ++ codes "]}")))
-package_seen later style p =
-    let head = joined (path_pieces (comma_if later) p.path.now) [] in
-    let said = members_listed true (verdict_members (verdict_of (map finding_view p.findings.items)) (texts_of p.keeping.items)) in
-    package_here later p.path.now (verdict_of (map finding_view p.findings.items)) (texts_of p.keeping.items) (map (finding_value style p.sources.now) (map finding_view p.findings.items))
-    ∙ ap (λ ds. head ++ (said ++ (codes ",\"diagnostics\":[" ++ (listed false ds ++ codes "]}")))) (map-map (finding_value style p.sources.now) finding_view p.findings.items)
-
--- the same of the lists that are lent
-pub package_is : (later : Bool) (style : Style) (p : FoundPackage) (comma : List ℕ) (verdict : Verdict) (judged : List Finding) (keeping : List (Bor (List ℕ))) (findings : List Finding) → comma ≡ comma_if later → verdict ≡ verdict_of (map finding_view judged) → judged ≡ p.findings.items → keeping ≡ p.keeping.items → findings ≡ p.findings.items → comma_if later ++ compact_text (package_value style (found_view p)) ≡ joined (path_pieces comma p.path.now) [] ++ (members_listed true (verdict_members verdict (texts_of keeping)) ++ (codes ",\"diagnostics\":[" ++ (listed false (map (finding_data style p.sources.now) findings) ++ codes "]}")))
-package_is later style p comma verdict judged keeping findings c v j k f = rw (c, v, j, k, f) (package_seen later style p)
 
 -- whether a branch is taken
 taken_here : codes ",\"taken\":true" ≡ members_listed true (taken_members (Some true))
@@ -255,19 +263,13 @@ ends_first wording w = rw w first_end
 pub ends_second : (wording : Wording) → wording ≡ Second → json_end wording ≡ joined (codes "],\"version\":" ∷ decimal 2 ∷ codes ",\"edition\":" ∷ decimal 2 ∷ codes "}\n" ∷ []) []
 ends_second wording w = rw w second_end
 
-report_here : (wording : Wording) (packages : List Data) → json_of wording packages ≡ codes "{\"packages\":[" ++ (listed false packages ++ json_end wording)
+pub report_here : (wording : Wording) (packages : List Data) → json_of wording packages ≡ codes "{\"packages\":[" ++ (listed false packages ++ json_end wording)
 unfolding escape_byte
 report_here wording packages =
     let version = version_members wording in
     value_then_is (object_of ((codes "packages", list_of packages) ∷ version)) (codes "\n")
     ∙ (ap (λ t. codes "{\"packages\":[" ++ items_then false (items_of packages) t) (last_parts version (codes "\n"))
     ∙ ap (λ t. codes "{\"packages\":[" ++ t) (items_then_listed false packages (members_listed true version ++ codes "}\n")))
-
--- the whole report
-pub report_is : (style : Style) (packages : List FoundPackage) → json_text style (map found_view packages) ≡ codes "{\"packages\":[" ++ (listed false (map (package_data style) packages) ++ json_end style.wording)
-report_is style packages =
-    ap (json_of style.wording) (map-map (package_value style) found_view packages)
-    ∙ report_here style.wording (map (package_data style) packages)
 
 -- where a name ends, as it was found
 place_same : (place : Place) (line column : ℕ) → place.line ≡ line → place.column ≡ column → place ≡ record { line = line; column = column }

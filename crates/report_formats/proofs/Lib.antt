@@ -1,13 +1,11 @@
-pub mod Steps
-pub mod Spelled
-pub mod NoteParts
-pub mod Values
 pub mod JsonPieces
-pub mod SarifPieces
+pub mod FindingPieces
+pub mod BindingCounts
 pub mod UnitFindings
-pub mod CodeRules
 pub mod NoteLines
 pub mod KeepingLines
 pub mod ShownLines
 pub mod TextParts
 pub mod TextExamples
+pub mod FunctionPieces
+pub mod NoteTurns

@@ -7,7 +7,7 @@ use Rattle.report.specs.ReportText.{name_of, bytes_of}
 use Rattle.report.specs.declared.codes.Wording.{Wording}
 use Rattle.report.specs.declared.notes.Note.{Note}
 use Rattle.report_formats.specs.ReportLines.{note_line}
-use Rattle.report_formats.proofs.NoteParts.{parts_then}
+use Rattle.format_parts.proofs.NoteParts.{parts_then}
 
 abbrev pub line_pieces : (file : List ℕ) (line column : ℕ) (a b c d e : List ℕ) → List (List ℕ)
 line_pieces file line column a b c d e =

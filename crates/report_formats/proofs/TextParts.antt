@@ -13,9 +13,9 @@ use Rattle.lexer.specs.declared.source.Source.{Source}
 use Rattle.report.specs.Entries.{texts_of}
 use Rattle.report.specs.declared.notes.Note.{Note}
 use Rattle.report_formats.specs.ReportLines.{all_lines, finding_line, last_lines, note_line, package_text, told_lines}
-use Rattle.report_formats.specs.Told.{is_told}
+use Rattle.format_parts.specs.Told.{is_told}
 use Rattle.report_formats.specs.UnitText.{lines_around, unit_lines, unit_text, unit_told}
-use Rattle.report_formats.specs.declared.style.Style.{Style}
+use Rattle.format_parts.specs.declared.style.Style.{Style}
 
 -- what the next one of a list gives, and the rest
 pub next_part : {X : Type 0} (part : X → List ℕ) (xs : List X) (i : ℕ) (x : X) → i < length xs → x ≡ get_or xs i x

@@ -1,13 +1,7 @@
 -- The report of a unit as JSON, cut into what is put.
 use Rattle.std.proofs.Common.{◌≡◌, ℕ, ◌+◌, ◌<◌, ◌≤◌, ◌^◌, Option, Some, None, List, [], ◌∷◌, ◌++◌, length, get_or, drop, map, filter, decimal, codes, slice_get, Bool, true, false, ◌||◌, cond, arith, refl, sym, ap, ◌∙◌}
 use Rattle.std.proofs.lemmas.List.{append_assoc, append-nil, drop_more, drop_all}
-use Rattle.std.proofs.lemmas.Bool.{and_parts, cond-true, cond-false}
-use Rattle.std.proofs.lemmas.Bool.Decides.{nat_tests}
-use Rattle.std.proofs.lemmas.Fmt.{digits_decimal}
-use Rattle.std.proofs.lemmas.Str.Parse.{IsNumeralModel, numerals_by_value, tells_all_ascii_digits}
-use Rattle.std.specs.Char.{is_ascii_digit}
-use Rattle.std.specs.Str.{all_ascii_digits}
-use Rattle.std.specs.Str.Parse.{digits_value}
+use Rattle.std.proofs.lemmas.Bool.{cond-true, cond-false}
 use Rattle.json.specs.Print.{escape_byte, escape}
 use Rattle.serde_json.specs.Data.{Data, string}
 use Rattle.serde_json.specs.Written.{comma_if, compact_text}
@@ -22,41 +16,31 @@ use Rattle.report.specs.Notes.{note_words, source_of}
 use Rattle.report.specs.ReportText.{name_of, bytes_of}
 use Rattle.report.specs.declared.codes.Wording.{Wording}
 use Rattle.report.specs.declared.notes.Note.{Note}
-use Rattle.report_formats.specs.Objects.{list_of}
-use Rattle.report_formats.specs.Pieces.{listed, members_listed, opened, stands_in_string}
+use Rattle.format_parts.specs.Fixes.{fix_members, told_fix}
+use Rattle.format_parts.specs.Objects.{list_of}
+use Rattle.format_parts.specs.Pieces.{listed, members_listed, opened}
 use Rattle.report_formats.specs.ReportLines.{reason_shown}
-use Rattle.report_formats.specs.Told.{is_told, reason_text}
+use Rattle.format_parts.specs.Told.{is_told, reason_text}
 use Rattle.report_formats.specs.UnitJson.{position_in, name_in, said_in, related_value, related_members, found_members, message_members, unit_finding, unit_findings, unit_value, unit_json_of, unit_json}
-use Rattle.report_formats.specs.declared.strings.Spelling.TheVariants.{InString}
-use Rattle.report_formats.specs.declared.style.Style.{Style}
-use Rattle.report_formats.proofs.NoteParts.{escaped_then}
-use Rattle.report_formats.proofs.Spelled.{escape-append, plain_byte}
-use Rattle.report_formats.proofs.Values.{regroup, items_then_listed, joined, joined_then, value_is, value_then_is, listed_is, opened_then, object_parts, more_parts, last_parts}
+use Rattle.format_parts.specs.declared.style.Style.{Style}
+use Rattle.suggested_fixes.specs.declared.edits.Fix.{Fix}
+use Rattle.format_parts.proofs.NoteParts.{escaped_then}
+use Rattle.format_parts.proofs.Spelled.{escape-append, number_stands}
+use Rattle.format_parts.proofs.Values.{regroup, items_then_listed, joined, joined_then, value_is, value_then_is, listed_is, opened_then, object_parts, more_parts, last_parts}
 
--- decimal digits stand for themselves
-own : IsNumeralModel (λ ds. all_ascii_digits ds ≡ true) (digits_value 10)
-own = numerals_by_value _ tells_all_ascii_digits
-
-digit_stands : (b : ℕ) → is_ascii_digit b ≡ true → stands_in_string b ≡ true
-digit_stands b h = grind (arith, nat_tests, h)
-
-digits_stand : (ds : List ℕ) → all_ascii_digits ds ≡ true → escape ds ≡ ds
-digits_stand [] h = refl
-digits_stand (b ∷ bs) h =
-    let both = and_parts _ _ h in
-    ap (λ t. t ++ escape bs) (plain_byte InString b (digit_stands b both.0)) ∙ ap (λ t. b ∷ t) (digits_stand bs both.1)
-
-pub number_stands : (n : ℕ) → n < 2 ^ 64 → escape (decimal n) ≡ decimal n
-number_stands n fits = digits_stand (decimal n) (digits_decimal own n fits)
-
--- a finding behind its comma: up to the end of what is said of it, the reason for which it is accepted, and its notes
-finding_parts : (later : Bool) (style : Style) (sources : List Source) (f : FindingEntry) → comma_if later ++ compact_text (unit_finding style sources f) ≡ opened later (found_members (slice_get sources f.said.file) f.said) ++ (members_listed true (message_members style.wording f) ++ (members_listed true (related_members style f.notes) ++ codes "}"))
-finding_parts later style sources f =
+-- a finding behind its comma: up to the end of what is said of it, the reason for which it is accepted, its notes, and
+-- its fix
+finding_parts : (later : Bool) (style : Style) (fixes : List Fix) (sources : List Source) (f : FindingEntry) → comma_if later ++ compact_text (unit_finding style fixes sources f) ≡ opened later (found_members (slice_get sources f.said.file) f.said) ++ (members_listed true (message_members style.wording f) ++ (members_listed true (related_members style f.notes) ++ (members_listed true (fix_members (told_fix style.wording fixes (slice_get sources f.said.file) f.said)) ++ codes "}")))
+finding_parts later style fixes sources f =
     let found = found_members (slice_get sources f.said.file) f.said in
     let message = message_members style.wording f in
     let related = related_members style f.notes in
-    object_parts later found (message ++ related)
-    ∙ ap (λ t. opened later found ++ t) (more_parts message related [] ∙ ap (λ t. members_listed true message ++ t) (last_parts related []))
+    let fix = fix_members (told_fix style.wording fixes (slice_get sources f.said.file) f.said) in
+    object_parts later found (message ++ (related ++ fix))
+    ∙ ap (λ t. opened later found ++ t)
+    (more_parts message (related ++ fix) []
+    ∙ ap (λ t. members_listed true message ++ t)
+    (more_parts related fix [] ∙ ap (λ t. members_listed true related ++ t) (last_parts fix [])))
 
 message_here : (said reason : List ℕ) → members_listed true ((codes "message", string (said ++ reason)) ∷ []) ≡ (codes ",\"message\":\"" ++ escape said) ++ (escape reason ++ codes "\"")
 unfolding escape_byte
@@ -69,14 +53,15 @@ message_here said reason =
 cut : (a b c d e : List ℕ) → a ++ ((b ++ (c ++ d)) ++ e) ≡ (a ++ b) ++ (c ++ (d ++ e))
 cut a b c d e = simp append_assoc
 
-pub finding_is : (later : Bool) (style : Style) (sources : List Source) (f : FindingEntry) (notes : List Note) → notes ≡ f.notes → comma_if later ++ compact_text (unit_finding style sources f) ≡ (opened later (found_members (slice_get sources f.said.file) f.said) ++ (codes ",\"message\":\"" ++ escape (said_in style.wording f.said))) ++ (escape (reason_shown f.accepted) ++ (codes "\"" ++ (members_listed true (related_members style notes) ++ codes "}")))
-finding_is later style sources f notes n =
+pub finding_is : (later : Bool) (style : Style) (fixes : List Fix) (sources : List Source) (f : FindingEntry) (notes : List Note) → notes ≡ f.notes → comma_if later ++ compact_text (unit_finding style fixes sources f) ≡ (opened later (found_members (slice_get sources f.said.file) f.said) ++ (codes ",\"message\":\"" ++ escape (said_in style.wording f.said))) ++ (escape (reason_shown f.accepted) ++ (codes "\"" ++ (members_listed true (related_members style notes) ++ (members_listed true (fix_members (told_fix style.wording fixes (slice_get sources f.said.file) f.said)) ++ codes "}"))))
+finding_is later style fixes sources f notes n =
     let found = opened later (found_members (slice_get sources f.said.file) f.said) in
     let said = said_in style.wording f.said in
     let reason = reason_shown f.accepted in
-    let last = members_listed true (related_members style f.notes) ++ codes "}" in
+    let fix = members_listed true (fix_members (told_fix style.wording fixes (slice_get sources f.said.file) f.said)) in
+    let last = members_listed true (related_members style f.notes) ++ (fix ++ codes "}") in
     rw n
-    (finding_parts later style sources f
+    (finding_parts later style fixes sources f
     ∙ (ap (λ t. found ++ (t ++ last)) (message_here said reason)
     ∙ cut found (codes ",\"message\":\"" ++ escape said) (escape reason) (codes "\"") last))
 
@@ -207,25 +192,25 @@ unit_here name findings =
     ∙ sym (joined_then (unit_pieces name) (listed false findings ++ codes "]}}\n")))
 
 -- the findings of these in memory that are told
-abbrev pub told_data : Style → List Source → List Finding → List Data
-told_data style sources findings = unit_findings style sources (map finding_view findings)
+abbrev pub told_data : Style → List Fix → List Source → List Finding → List Data
+told_data style fixes sources findings = unit_findings style fixes sources (map finding_view findings)
 
-pub unit_is : (style : Style) (name : List ℕ) (p : FoundPackage) (findings : List Finding) → findings ≡ p.findings.items
-    → unit_json style name (found_view p)
-    ≡ joined (unit_pieces name) [] ++ (listed false (told_data style p.sources.now findings) ++ codes "]}}\n")
-unit_is style name p findings f = rw f (unit_here name (told_data style p.sources.now p.findings.items))
+pub unit_is : (style : Style) (fixes : List Fix) (name : List ℕ) (p : FoundPackage) (findings : List Finding) → findings ≡ p.findings.items
+    → unit_json style fixes name (found_view p)
+    ≡ joined (unit_pieces name) [] ++ (listed false (told_data style fixes p.sources.now findings) ++ codes "]}}\n")
+unit_is style fixes name p findings f = rw f (unit_here name (told_data style fixes p.sources.now p.findings.items))
 
 -- a finding that is told, and one that is not
-module _ (style : Style) (sources : List Source) (later : Bool) (f : FindingEntry) where
+module _ (style : Style) (fixes : List Fix) (sources : List Source) (later : Bool) (f : FindingEntry) where
   pub told_is : is_told style f ≡ true
-      → listed later (unit_findings style sources (f ∷ [])) ≡ comma_if later ++ compact_text (unit_finding style sources f)
+      → listed later (unit_findings style fixes sources (f ∷ [])) ≡ comma_if later ++ compact_text (unit_finding style fixes sources f)
   told_is told =
-      ap (λ l. listed later (map (unit_finding style sources) l)) (cond-true (is_told style f) (f ∷ []) [] told)
-      ∙ ap (λ t. comma_if later ++ t) (append-nil (compact_text (unit_finding style sources f)))
+      ap (λ l. listed later (map (unit_finding style fixes sources) l)) (cond-true (is_told style f) (f ∷ []) [] told)
+      ∙ ap (λ t. comma_if later ++ t) (append-nil (compact_text (unit_finding style fixes sources f)))
 
-  pub untold_is : is_told style f ≡ false → listed later (unit_findings style sources (f ∷ [])) ≡ []
+  pub untold_is : is_told style f ≡ false → listed later (unit_findings style fixes sources (f ∷ [])) ≡ []
   untold_is told =
-      ap (λ l. listed later (map (unit_finding style sources) l)) (cond-false (is_told style f) (f ∷ []) [] told)
+      ap (λ l. listed later (map (unit_finding style fixes sources) l)) (cond-false (is_told style f) (f ∷ []) [] told)
 
 -- the next one, the rest, and the end
 told_then : (value : FindingEntry → Data) (told later : Bool) (f : FindingEntry) (fs : List FindingEntry)
@@ -236,19 +221,19 @@ told_then value true false f fs = regroup (comma_if false) (compact_text (value 
 told_then value false true f fs = refl
 told_then value false false f fs = refl
 
-pub next_told : (style : Style) (sources : List Source) (later : Bool) (fs : List Finding) (i : ℕ) (f : Finding)
+pub next_told : (style : Style) (fixes : List Fix) (sources : List Source) (later : Bool) (fs : List Finding) (i : ℕ) (f : Finding)
     → i < length fs → f ≡ get_or fs i f → (after : Bool) → after ≡ (later || is_told style (finding_view f))
-    → listed later (told_data style sources (drop i fs))
-    ≡ listed later (unit_findings style sources (finding_view f ∷ [])) ++ listed after (told_data style sources (drop (i + 1) fs))
-next_told style sources later fs i f inside there after is =
+    → listed later (told_data style fixes sources (drop i fs))
+    ≡ listed later (unit_findings style fixes sources (finding_view f ∷ [])) ++ listed after (told_data style fixes sources (drop (i + 1) fs))
+next_told style fixes sources later fs i f inside there after is =
     rw is
-    (ap (λ l. listed later (told_data style sources l)) (drop_more fs i f inside)
-    ∙ (ap (λ (x : Finding). listed later (told_data style sources (x ∷ drop (i + 1) fs))) (sym there)
-    ∙ told_then (unit_finding style sources) (is_told style (finding_view f)) later (finding_view f) (filter (is_told style) (map finding_view (drop (i + 1) fs)))))
+    (ap (λ l. listed later (told_data style fixes sources l)) (drop_more fs i f inside)
+    ∙ (ap (λ (x : Finding). listed later (told_data style fixes sources (x ∷ drop (i + 1) fs))) (sym there)
+    ∙ told_then (unit_finding style fixes sources) (is_told style (finding_view f)) later (finding_view f) (filter (is_told style) (map finding_view (drop (i + 1) fs)))))
 
-pub none_told : (style : Style) (sources : List Source) (later : Bool) (fs : List Finding) (i : ℕ) → length fs ≤ i
-    → listed later (told_data style sources (drop i fs)) ≡ []
-none_told style sources later fs i over = ap (λ l. listed later (told_data style sources l)) (drop_all i fs over)
+pub none_told : (style : Style) (fixes : List Fix) (sources : List Source) (later : Bool) (fs : List Finding) (i : ℕ) → length fs ≤ i
+    → listed later (told_data style fixes sources (drop i fs)) ≡ []
+none_told style fixes sources later fs i over = ap (λ l. listed later (told_data style fixes sources l)) (drop_all i fs over)
 
 nothing_found : unit_json_of (codes "m") [] ≡ codes "{\"m\":{\"ctxvet\":[]}}\n"
 unfolding escape_byte

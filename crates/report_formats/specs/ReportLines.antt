@@ -15,8 +15,8 @@ use Rattle.report.specs.Notes.{note_words, source_of}
 use Rattle.report.specs.ReportText.{name_of, bytes_of}
 use Rattle.report.specs.declared.codes.Wording.{Wording}
 use Rattle.report.specs.declared.notes.Note.{Note}
-use Rattle.report_formats.specs.Told.{is_told, reason_text}
-use Rattle.report_formats.specs.declared.style.Style.{Style}
+use Rattle.format_parts.specs.Told.{is_told, reason_text}
+use Rattle.format_parts.specs.declared.style.Style.{Style}
 
 -- ` (accepted: REASON)`
 abbrev pub reason_shown : Option AcceptedBy → List ℕ

@@ -14,11 +14,13 @@ use Rattle.report.specs.declared.codes.Wording.{Wording}
 use Rattle.report.specs.declared.codes.Wording.TheVariants.{First, Second}
 use Rattle.report.specs.declared.notes.Note.{Note}
 use Rattle.report.specs.ReportText.{name_of, bytes_of}
-use Rattle.report_formats.specs.Objects.{object_of, list_of}
+use Rattle.format_parts.specs.Objects.{object_of, list_of}
 use Rattle.report_formats.specs.ReportLines.{reason_shown}
-use Rattle.report_formats.specs.SarifText.{name_before}
-use Rattle.report_formats.specs.Told.{is_told}
-use Rattle.report_formats.specs.declared.style.Style.{Style}
+use Rattle.format_parts.specs.Fixes.{fix_members, told_fix}
+use Rattle.format_parts.specs.NameEnds.{name_before}
+use Rattle.format_parts.specs.Told.{is_told}
+use Rattle.format_parts.specs.declared.style.Style.{Style}
+use Rattle.suggested_fixes.specs.declared.edits.Fix.{Fix}
 
 -- `FILE:LINE:COLUMN`, the column in bytes
 abbrev pub position_at : List ℕ → List ℕ → List ℕ → List ℕ
@@ -60,13 +62,15 @@ abbrev pub message_members : Wording → FindingEntry → List (List ℕ × Data
 message_members wording f = (codes "message", string (said_in wording f.said ++ reason_shown f.accepted)) ∷ []
 
 -- a finding of a unit with these sources
-abbrev pub unit_finding : Style → List Source → FindingEntry → Data
-unit_finding style sources f = object_of (
+abbrev pub unit_finding : Style → List Fix → List Source → FindingEntry → Data
+unit_finding style fixes sources f = object_of (
     found_members (slice_get sources f.said.file) f.said
-    ++ (message_members style.wording f ++ related_members style f.notes))
+    ++ (message_members style.wording f
+    ++ (related_members style f.notes
+    ++ fix_members (told_fix style.wording fixes (slice_get sources f.said.file) f.said))))
 
-abbrev pub unit_findings : Style → List Source → List FindingEntry → List Data
-unit_findings style sources findings = map (unit_finding style sources) (filter (is_told style) findings)
+abbrev pub unit_findings : Style → List Fix → List Source → List FindingEntry → List Data
+unit_findings style fixes sources findings = map (unit_finding style fixes sources) (filter (is_told style) findings)
 
 -- the findings of this tool in the unit of this name
 abbrev pub unit_value : List ℕ → List Data → Data
@@ -75,5 +79,5 @@ unit_value name findings = object_of ((name, object_of ((codes "ctxvet", list_of
 abbrev pub unit_json_of : List ℕ → List Data → List ℕ
 unit_json_of name findings = compact_text (unit_value name findings) ++ codes "\n"
 
-abbrev pub unit_json : Style → List ℕ → FoundEntry → List ℕ
-unit_json style name p = unit_json_of name (unit_findings style p.sources p.findings)
+abbrev pub unit_json : Style → List Fix → List ℕ → FoundEntry → List ℕ
+unit_json style fixes name p = unit_json_of name (unit_findings style fixes p.sources p.findings)

@@ -9,8 +9,8 @@ use Rattle.lexer.specs.declared.source.Source.{Source}
 use Rattle.accepting.specs.Findings.{FindingEntry, FoundEntry}
 use Rattle.report.specs.ReportText.{bytes_of}
 use Rattle.report_formats.specs.ReportLines.{finding_line, note_line}
-use Rattle.report_formats.specs.Told.{is_told}
-use Rattle.report_formats.specs.declared.style.Style.{Style}
+use Rattle.format_parts.specs.Told.{is_told}
+use Rattle.format_parts.specs.declared.style.Style.{Style}
 
 abbrev pub before_first_line : ℕ → List (List ℕ) → List (List ℕ)
 before_first_line b [] = (b ∷ []) ∷ []

@@ -7,14 +7,15 @@ ghost use Rattle.report_formats.specs.Formats.{text_of};
 
 use crate::json_report::write_json;
 use crate::report_lines::write_text;
-use crate::sarif::write_sarif;
-use crate::style::style_of;
 use accepting::{FoundPackage, Telling};
+use format_parts::style_of;
 use report::{Format, Sink, WriteFault};
+use sarif::write_sarif;
 
 /// Writes the report of these packages, in which all that is accepted is found, in the form that is asked for, and
 /// nothing else; with the notes of findings, or without. Lines and columns count from 1; columns count bytes, and in
-/// SARIF code points. For each note its file is read up to its place. No memory is taken.
+/// SARIF code points. For each note its file is read up to its place, and in JSON of version 2 that of each finding. No
+/// memory is taken.
 ///
 /// # Errors
 ///
@@ -32,7 +33,7 @@ pub fn write_report<S: Sink>(
     let style = style_of(telling, with_reasons);
     match telling.format {
         Format::Text => write_text(style, packages, sink),
-        Format::Json => write_json(style, packages, sink),
-        Format::Sarif => write_sarif(style, packages, sink),
+        Format::Json => write_json(style, telling.fixes, packages, sink),
+        Format::Sarif => write_sarif(style, telling.fixes, packages, sink),
     }
 }

@@ -1,44 +1,51 @@
 //! A report as JSON.
 
-ghost use Rattle.std.specs.Prelude.{◌≡◌, ◌++◌, false, true, map, option_map, slice_get};
+ghost use Rattle.std.specs.Prelude.{◌≡◌, ◌++◌, [], codes, false, true, map, option_map, slice_get};
 ghost use Rattle.accepting.specs.Findings.{accepted_view, finding_view, found_view};
 ghost use Rattle.accepting.specs.declared.findings.Verdict.TheVariants.{Yes};
 ghost use Rattle.report.specs.Cursors.{IsAt};
 ghost use Rattle.report.specs.Entries.{entry_of, texts_of};
 ghost use Rattle.report.specs.Writing.{refusals_after, IsWritten};
-ghost use Rattle.report_formats.specs.JsonText.{byte_end, end_members, finding_value, json_text, kind_members, note_value, package_value, place_members_at, reason_members, said_members, verdict_members, why_members};
-ghost use Rattle.report_formats.specs.Pieces.{IsBytePlace, IsByteRegion, json_end, listed, members_listed, opened};
-ghost use Rattle.report_formats.specs.Told.{notes_told};
+ghost use Rattle.report_formats.specs.JsonText.{byte_end, end_members, finding_value, first_members, json_text, kind_members, last_members, note_value, note_values, package_value, package_values, reason_members, said_members, verdict_members, why_members};
+ghost use Rattle.format_parts.specs.Pieces.{IsBytePlace, listed, members_listed, opened};
+ghost use Rattle.report_formats.specs.Pieces.{IsByteRegion, json_end};
+ghost use Rattle.format_parts.specs.Told.{notes_told};
 ghost use Rattle.serde_json.specs.Data.{string};
 ghost use Rattle.serde_json.specs.Written.{comma_if, compact_text};
 
-use crate::ends::{Region, told_end};
+use crate::causes::{count_from, write_cause};
+use crate::in_functions::write_function;
 use crate::note_kinds::{kind_text, taken_text};
-use crate::notes::{note_place, text_parts};
-use crate::pieces::FormatPiece::{Number, Plain, Spelled};
-use crate::pieces::{comma, name_of, put_each};
-use crate::strings::Spelling::InString;
-use crate::strings::put_spelled;
-use crate::style::{Style, notes_told, reason_text};
+use crate::places::open_place;
+use crate::turns::{told_turn, write_turn};
 use accepting::{Acceptance, Finding, FoundPackage, Verdict, verdict_of};
+use format_parts::FormatPiece::{Number, Plain, Spelled};
+use format_parts::Spelling::InString;
+use format_parts::{
+    Region, Style, comma, name_of, note_place, notes_told, put_each, put_spelled, reason_text,
+    text_parts, told_end, write_fix,
+};
 use lexer::{Place, Source};
 use report::{
     Cursor, Diagnostic, Note, NoteText, Sink, Wording, WriteFault, first_byte, moved, put_all,
 };
+use suggested_fixes::Fix;
 
-/// Writes the report as one JSON object and a newline. Where the findings are in their order, this reads each source
-/// but once.
+/// Writes the report as one JSON object and a newline, each finding with the first of the fixes that is for it. Where
+/// the findings are in their order, their places are found in one go through each source; functions are looked for
+/// anew for each finding.
 pub fn write_json<S: Sink>(
     style: Style,
+    fixes: &[Fix],
     packages: &[FoundPackage],
     sink: &mut S,
 ) -> Result<(), WriteFault>
-    ensures taken { IsWritten (json_text style (map found_view packages.now))
+    ensures taken { IsWritten (json_text style fixes.now (map found_view packages.now))
         (S.taken sink.old) (S.taken sink.new) result }
     ensures refusals { S.refusals sink.new ≡ refusals_after (S.refusals sink.old) result }
 {
     put_all(b"{\"packages\":[", sink)?;
-    write_packages(style, packages, sink)?;
+    write_packages(style, fixes, packages, sink)?;
     close_report(style.wording, sink)
 }
 
@@ -64,28 +71,35 @@ fn close_report<S: Sink>(wording: Wording, sink: &mut S) -> Result<(), WriteFaul
 
 fn write_packages<S: Sink>(
     style: Style,
+    fixes: &[Fix],
     packages: &[FoundPackage],
     sink: &mut S,
 ) -> Result<(), WriteFault>
-    ensures taken { IsWritten (listed false (map (λ p. package_value style (found_view p)) packages.now))
+    ensures taken { IsWritten (listed false (package_values style fixes.now 0 (map found_view packages.now)))
         (S.taken sink.old) (S.taken sink.new) result }
     ensures refusals { S.refusals sink.new ≡ refusals_after (S.refusals sink.old) result }
 {
     let mut is_later = false;
+    let mut count = 0;
     for package in packages {
-        write_package(style, package, is_later, sink)?;
+        write_package(style, fixes, count, package, is_later, sink)?;
         is_later = true;
+        count = count_from(style, count, &package.findings);
     }
     Ok(())
 }
 
+/// Writes a package, before which so many bindings are told of.
 fn write_package<S: Sink>(
     style: Style,
+    fixes: &[Fix],
+    count: usize,
     found: &FoundPackage,
     is_later: bool,
     sink: &mut S,
 ) -> Result<(), WriteFault>
-    ensures taken { IsWritten (comma_if is_later ++ compact_text (package_value style (found_view found.now)))
+    ensures taken { IsWritten
+        (comma_if is_later ++ compact_text (package_value style fixes.now count (found_view found.now)))
         (S.taken sink.old) (S.taken sink.new) result }
     ensures refusals { S.refusals sink.new ≡ refusals_after (S.refusals sink.old) result }
 {
@@ -100,7 +114,7 @@ fn write_package<S: Sink>(
     )?;
     write_verdict(verdict_of(&found.findings), &found.keeping, sink)?;
     put_all(b",\"diagnostics\":[", sink)?;
-    write_findings(style, found.sources, &found.findings, sink)?;
+    write_findings(style, fixes, count, found.sources, &found.findings, sink)?;
     put_all(b"]}", sink)
 }
 
@@ -161,13 +175,19 @@ fn write_name<S: Sink>(name: &str, is_later: bool, sink: &mut S) -> Result<(), W
     )
 }
 
+/// Writes the findings of a package, before which so many bindings are told of.
 fn write_findings<S: Sink>(
     style: Style,
+    fixes: &[Fix],
+    count: usize,
     sources: &[Source],
     findings: &[Finding],
     sink: &mut S,
 ) -> Result<(), WriteFault>
-    ensures taken { IsWritten (listed false (map (λ f. finding_value style sources.now (finding_view f)) findings.now))
+    ensures taken { IsWritten
+        (listed false
+        (map (finding_value style fixes.now count (map finding_view findings.now) sources.now)
+        (map finding_view findings.now)))
         (S.taken sink.old) (S.taken sink.new) result }
     ensures refusals { S.refusals sink.new ≡ refusals_after (S.refusals sink.old) result }
 {
@@ -177,7 +197,9 @@ fn write_findings<S: Sink>(
         let diagnostic = &finding.diagnostic;
         cursor = moved(cursor, sources, diagnostic.file, diagnostic.offset as usize);
         let region = region_from(style.wording, sources, diagnostic, cursor);
-        write_finding(style, sources, finding, region, is_later, sink)?;
+        open_finding(style, sources, finding, region, is_later, sink)?;
+        write_cause(style, count, findings, finding, sink)?;
+        close_finding(style, fixes, sources, finding, sink)?;
         is_later = true;
     }
     Ok(())
@@ -216,8 +238,8 @@ fn end_from<'a>(
     }
 }
 
-/// Writes a finding, which stands there.
-fn write_finding<'a, S: Sink>(
+/// Writes what is told of a finding, which stands there, before its binding.
+fn open_finding<'a, S: Sink>(
     style: Style,
     sources: &'a [Source],
     finding: &'a Finding<'a>,
@@ -227,8 +249,7 @@ fn write_finding<'a, S: Sink>(
 ) -> Result<(), WriteFault>
     requires { IsByteRegion style.wording (slice_get sources.now finding.now.diagnostic.file)
         (entry_of finding.now.diagnostic) region }
-    ensures taken { IsWritten
-        (comma_if is_later ++ compact_text (finding_value style sources.now (finding_view finding.now)))
+    ensures taken { IsWritten (opened is_later (first_members style sources.now (finding_view finding.now)))
         (S.taken sink.old) (S.taken sink.new) result }
     ensures refusals { S.refusals sink.new ≡ refusals_after (S.refusals sink.old) result }
 {
@@ -241,7 +262,24 @@ fn write_finding<'a, S: Sink>(
         sink,
     )?;
     write_reason(finding.acceptance, sink)?;
+    write_function(style.wording, sources, &finding.diagnostic, sink)
+}
+
+/// Writes what is told of a finding behind its binding.
+fn close_finding<'a, S: Sink>(
+    style: Style,
+    fixes: &[Fix],
+    sources: &'a [Source],
+    finding: &'a Finding<'a>,
+    sink: &mut S,
+) -> Result<(), WriteFault>
+    ensures taken { IsWritten
+        (members_listed true (last_members style fixes.now sources.now (finding_view finding.now)) ++ codes "}")
+        (S.taken sink.old) (S.taken sink.new) result }
+    ensures refusals { S.refusals sink.new ≡ refusals_after (S.refusals sink.old) result }
+{
     write_why(style, finding, sink)?;
+    write_fix(style.wording, fixes, sources, &finding.diagnostic, sink)?;
     put_all(b"}", sink)
 }
 
@@ -300,31 +338,6 @@ fn write_end<S: Sink>(end: Option<Place>, sink: &mut S) -> Result<(), WriteFault
     )
 }
 
-/// Writes a file, by its name, and a place in it.
-fn open_place<S: Sink>(
-    file: &str,
-    place: Place,
-    is_later: bool,
-    sink: &mut S,
-) -> Result<(), WriteFault>
-    ensures taken { IsWritten (opened is_later (place_members_at file.now place.line place.column))
-        (S.taken sink.old) (S.taken sink.new) result }
-    ensures refusals { S.refusals sink.new ≡ refusals_after (S.refusals sink.old) result }
-{
-    put_each(
-        &[
-            Plain(comma(is_later)),
-            Plain("{\"file\":\""),
-            Spelled(InString, file),
-            Plain("\",\"line\":"),
-            Number(place.line),
-            Plain(",\"column\":"),
-            Number(place.column),
-        ],
-        sink,
-    )
-}
-
 /// Writes the reason for which a finding is accepted, if it is.
 fn write_reason<'a, S: Sink>(
     acceptance: Option<Acceptance<'a>>,
@@ -363,25 +376,30 @@ fn write_why<'a, S: Sink>(
 }
 
 fn write_notes<S: Sink>(wording: Wording, notes: &[Note], sink: &mut S) -> Result<(), WriteFault>
-    ensures taken { IsWritten (listed false (map (note_value wording) notes.now))
+    ensures taken { IsWritten (listed false (note_values wording [] notes.now))
         (S.taken sink.old) (S.taken sink.new) result }
     ensures refusals { S.refusals sink.new ≡ refusals_after (S.refusals sink.old) result }
 {
     let mut is_later = false;
-    for note in notes {
-        write_note(wording, note, is_later, sink)?;
+    let mut index = 0;
+    'notes: while index < notes.len() {
+        let (before, _) = notes.split_at(index);
+        write_note(wording, before, &notes[index], is_later, sink)?;
         is_later = true;
+        index += 1;
     }
     Ok(())
 }
 
+/// Writes a note behind others.
 fn write_note<'a, S: Sink>(
     wording: Wording,
+    before: &'a [Note<'a>],
     note: &'a Note<'a>,
     is_later: bool,
     sink: &mut S,
 ) -> Result<(), WriteFault>
-    ensures taken { IsWritten (comma_if is_later ++ compact_text (note_value wording note.now))
+    ensures taken { IsWritten (comma_if is_later ++ compact_text (note_value wording before.now note.now))
         (S.taken sink.old) (S.taken sink.new) result }
     ensures refusals { S.refusals sink.new ≡ refusals_after (S.refusals sink.old) result }
 {
@@ -393,6 +411,7 @@ fn write_note<'a, S: Sink>(
         sink,
     )?;
     write_kind(wording, note.text, sink)?;
+    write_turn(told_turn(wording, before, note), sink)?;
     put_each(
         &[
             Plain(",\"text\":\""),

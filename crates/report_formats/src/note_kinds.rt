@@ -2,7 +2,7 @@
 
 ghost use Rattle.std.specs.Prelude.{◌≡◌, true};
 ghost use Rattle.report_formats.specs.NoteKinds.{is_either, kind_text, taken_by, taken_in, taken_members, words_kind};
-ghost use Rattle.report_formats.specs.Pieces.{members_listed};
+ghost use Rattle.format_parts.specs.Pieces.{members_listed};
 
 use report::NoteText;
 
@@ -39,7 +39,7 @@ fn words_kind(words: &str) -> &'static str
 }
 
 /// Whether the text is one of two.
-fn is_either(text: &str, one: &str, other: &str) -> bool
+pub fn is_either(text: &str, one: &str, other: &str) -> bool
     ensures { result ≡ is_either text.now one.now other.now }
 {
     text == one || text == other

@@ -9,10 +9,8 @@ ghost use Rattle.report.specs.ReportText.{bytes_of};
 ghost use Rattle.report.specs.Writing.{refusals_after, IsWritten};
 ghost use Rattle.report_formats.specs.ReportLines.{front_in, finding_line, keeping_line, last_lines, more_names, note_line, package_text, reason_shown, report_text, told_lines, verdict_line};
 
-use crate::notes::{note_place, text_parts};
-use crate::pieces::name_of;
-use crate::style::{Style, is_told, reason_text};
 use accepting::{Acceptance, Finding, FoundPackage, Verdict, verdict_of};
+use format_parts::{Style, is_told, name_of, note_place, reason_text, text_parts};
 use lexer::{Place, Source};
 use report::TextPiece::{Number, Text};
 use report::{Diagnostic, Note, Sink, Wording, WriteFault, first_byte, moved, put_all, put_pieces};

@@ -5,36 +5,37 @@ ghost use Rattle.accepting.specs.Findings.{accepted_view, finding_view, found_vi
 ghost use Rattle.json.specs.Print.{escape};
 ghost use Rattle.report.specs.Entries.{entry_of};
 ghost use Rattle.report.specs.Writing.{refusals_after, IsWritten};
-ghost use Rattle.report_formats.specs.Pieces.{IsBytePlace, listed, members_listed, opened};
+ghost use Rattle.format_parts.specs.Pieces.{IsBytePlace, listed, members_listed, opened};
 ghost use Rattle.report_formats.specs.ReportLines.{reason_shown};
-ghost use Rattle.report_formats.specs.Told.{is_told};
+ghost use Rattle.format_parts.specs.Told.{is_told};
 ghost use Rattle.report_formats.specs.UnitJson.{found_members, name_in, related_members, related_value, said_in, unit_finding, unit_findings, unit_json};
 ghost use Rattle.serde_json.specs.Written.{comma_if, compact_text};
 
-use crate::notes::{note_place, text_parts};
-use crate::pieces::FormatPiece::{Number, Plain, Spelled};
-use crate::pieces::{comma, name_of, put_each};
-use crate::sarif::name_parts;
-use crate::strings::Spelling::InString;
-use crate::strings::put_spelled;
-use crate::style::{Style, is_told, reason_text};
 use accepting::{Acceptance, Finding, FoundPackage};
+use format_parts::FormatPiece::{Number, Plain, Spelled};
+use format_parts::Spelling::InString;
+use format_parts::{
+    Style, comma, is_told, name_of, name_parts, note_place, put_each, put_spelled, reason_text,
+    text_parts, write_fix,
+};
 use lexer::{Place, Source};
 use report::{Diagnostic, Note, Sink, Wording, WriteFault, first_byte, moved, put_all};
+use suggested_fixes::Fix;
 
 /// Writes the findings of the unit of this name that are told as JSON, one object on one line, each by its code, its
-/// place and its text, and with its notes where they are asked for.
+/// place and its text, with its notes where they are asked for, and with the first of the fixes that is for it.
 ///
 /// # Errors
 ///
 /// A put failed or took nothing. A beginning of the text is taken then, and not all of it.
 pub fn write_unit_json<S: Sink>(
     style: Style,
+    fixes: &[Fix],
     name: &str,
     found: &FoundPackage,
     sink: &mut S,
 ) -> Result<(), WriteFault>
-    ensures taken { IsWritten (unit_json style name.now (found_view found.now))
+    ensures taken { IsWritten (unit_json style fixes.now name.now (found_view found.now))
         (S.taken sink.old) (S.taken sink.new) result }
     ensures refusals { S.refusals sink.new ≡ refusals_after (S.refusals sink.old) result }
 {
@@ -46,17 +47,18 @@ pub fn write_unit_json<S: Sink>(
         ],
         sink,
     )?;
-    write_findings(style, found.sources, &found.findings, sink)?;
+    write_findings(style, fixes, found.sources, &found.findings, sink)?;
     put_all(b"]}}\n", sink)
 }
 
 fn write_findings<S: Sink>(
     style: Style,
+    fixes: &[Fix],
     sources: &[Source],
     findings: &[Finding],
     sink: &mut S,
 ) -> Result<(), WriteFault>
-    ensures taken { IsWritten (listed false (unit_findings style sources.now (map finding_view findings.now)))
+    ensures taken { IsWritten (listed false (unit_findings style fixes.now sources.now (map finding_view findings.now)))
         (S.taken sink.old) (S.taken sink.new) result }
     ensures refusals { S.refusals sink.new ≡ refusals_after (S.refusals sink.old) result }
 {
@@ -65,7 +67,7 @@ fn write_findings<S: Sink>(
     for finding in findings {
         let diagnostic = &finding.diagnostic;
         cursor = moved(cursor, sources, diagnostic.file, diagnostic.offset as usize);
-        write_told(style, sources, finding, cursor.place, is_later, sink)?;
+        write_told(style, fixes, sources, finding, cursor.place, is_later, sink)?;
         is_later = comes_later(style, finding, is_later);
     }
     Ok(())
@@ -81,27 +83,7 @@ fn comes_later(style: Style, finding: &Finding, is_later: bool) -> bool
 /// Writes a finding, which stands at this place, if it is told.
 fn write_told<'a, S: Sink>(
     style: Style,
-    sources: &'a [Source],
-    finding: &'a Finding<'a>,
-    place: Place,
-    is_later: bool,
-    sink: &mut S,
-) -> Result<(), WriteFault>
-    requires { IsBytePlace (slice_get sources.now finding.now.diagnostic.file) finding.now.diagnostic.offset place }
-    ensures taken { IsWritten (listed is_later (unit_findings style sources.now (finding_view finding.now ∷ [])))
-        (S.taken sink.old) (S.taken sink.new) result }
-    ensures refusals { S.refusals sink.new ≡ refusals_after (S.refusals sink.old) result }
-{
-    if is_told(style, finding) {
-        write_finding(style, sources, finding, place, is_later, sink)
-    } else {
-        Ok(())
-    }
-}
-
-/// Writes a finding, which stands at this place.
-fn write_finding<'a, S: Sink>(
-    style: Style,
+    fixes: &[Fix],
     sources: &'a [Source],
     finding: &'a Finding<'a>,
     place: Place,
@@ -110,7 +92,30 @@ fn write_finding<'a, S: Sink>(
 ) -> Result<(), WriteFault>
     requires { IsBytePlace (slice_get sources.now finding.now.diagnostic.file) finding.now.diagnostic.offset place }
     ensures taken { IsWritten
-        (comma_if is_later ++ compact_text (unit_finding style sources.now (finding_view finding.now)))
+        (listed is_later (unit_findings style fixes.now sources.now (finding_view finding.now ∷ [])))
+        (S.taken sink.old) (S.taken sink.new) result }
+    ensures refusals { S.refusals sink.new ≡ refusals_after (S.refusals sink.old) result }
+{
+    if is_told(style, finding) {
+        write_finding(style, fixes, sources, finding, place, is_later, sink)
+    } else {
+        Ok(())
+    }
+}
+
+/// Writes a finding, which stands at this place.
+fn write_finding<'a, S: Sink>(
+    style: Style,
+    fixes: &[Fix],
+    sources: &'a [Source],
+    finding: &'a Finding<'a>,
+    place: Place,
+    is_later: bool,
+    sink: &mut S,
+) -> Result<(), WriteFault>
+    requires { IsBytePlace (slice_get sources.now finding.now.diagnostic.file) finding.now.diagnostic.offset place }
+    ensures taken { IsWritten
+        (comma_if is_later ++ compact_text (unit_finding style fixes.now sources.now (finding_view finding.now)))
         (S.taken sink.old) (S.taken sink.new) result }
     ensures refusals { S.refusals sink.new ≡ refusals_after (S.refusals sink.old) result }
 {
@@ -125,6 +130,7 @@ fn write_finding<'a, S: Sink>(
     write_reason(finding.acceptance, sink)?;
     put_all(b"\"", sink)?;
     write_related(style, &finding.notes, sink)?;
+    write_fix(style.wording, fixes, sources, &finding.diagnostic, sink)?;
     put_all(b"}", sink)
 }
 

@@ -8,8 +8,8 @@ ghost use Rattle.report.specs.Writing.{refusals_after, IsWritten};
 ghost use Rattle.report_formats.specs.UnitText.{is_near, lines_around, lines_of, shown_from, shown_if, shown_line, unit_lines, unit_text, unit_told};
 
 use crate::report_lines::{write_line, write_notes};
-use crate::style::{Style, is_told};
 use accepting::{Finding, FoundPackage};
+use format_parts::{Style, is_told};
 use lexer::{Place, Source};
 use memchr::memchr;
 use report::TextPiece::{Number, Text};

@@ -1,5 +1,5 @@
 -- A file whose text lacks the words names no maker, no type of cancel functions and no `recover`.
-use Rattle.std.proofs.Common.{◌≡◌, ℕ, Bool, true, false, List, [], ◌∷◌, ◌++◌, Option, Some, None, Contains, refl, ap, ◌∙◌}
+use Rattle.std.proofs.Common.{◌≡◌, ℕ, Bool, true, false, List, [], ◌∷◌, ◌++◌, Option, Some, None, Contains, refl, ap, ◌∙◌, subst}
 use Rattle.std.specs.Prelude.{◌&&◌, ◌||◌, codes}
 use Rattle.std.specs.List.{list_any}
 use Rattle.std.proofs.lemmas.List.Elements.{Contains-append_left, Contains-append_right}
@@ -9,6 +9,7 @@ use Rattle.meaning.specs.Mentions.{Named, as_named, RowForm, defines, assigns, d
 use Rattle.meaning.specs.FunctionFacts.{context_path, is_of, is_import, is_selected, Item, alone, items_of}
 use Rattle.meaning.specs.Tracked.{Known, plain_makers, cause_makers, only_call, receiver_items}
 use Rattle.meaning.proofs.Membership.{contains_here, contains_there}
+use Rattle.meaning_reports.proofs.MeantImports.{marks_there}
 use Rattle.silent_files.specs.NamedWords.{Lexed, LacksWord, LacksEach, IsSelectedWord, AreWords, AreWordsIf, CallHasWords, TypeHasWords, FormHasWords, RowHasWords, RoleHasWords, FieldHasWords, ParametersHaveWords, ReceiverHasWords, SignatureHasWords, HasWords}
 use Rattle.silent_files.proofs.NamedWords.{names_are_words, lacked_words_are_no_names}
 use Rattle.silent_files.specs.SilentFiles.{tells, named_tells, call_tells, type_tells, items_tell, signature_tells, form_tells, row_tells, role_tells, field_tells, mark_tells, names_recover}
@@ -155,9 +156,14 @@ module _ (source : Lexed) (cut : IsTokens source.text source.tokens) where
 
 pub words_tell : WordsTell
 words_tell = record {
-  no_recover = λ edition text tree t lacks. none_among names_recover (file_marks tree) λ m among.
-      is_no_recover record { text = text; tokens = t.tokens } t.cut lacks m (names_are_words edition text tree m t among);
-  none_tells = λ text tree known t lacks. none_among (mark_tells known) (file_marks tree) λ m among.
-      mark_tells_none record { text = text; tokens = t.tokens } t.cut lacks known m
-      (names_are_words known.edition text tree m t among);
+  no_recover = λ edition text tree t lacks. let tokens = t.is_tree.tokens in
+      subst (λ (ms : List Mark). list_any names_recover ms ≡ false) (marks_there t.meant t.written tree t.same)
+      (none_among names_recover (file_marks t.written) λ m among.
+      is_no_recover record { text = text; tokens = tokens } t.is_tree.cut lacks m
+      (names_are_words edition text t.written m t.is_tree among));
+  none_tells = λ text tree known t lacks. let tokens = t.is_tree.tokens in
+      subst (λ (ms : List Mark). list_any (mark_tells known) ms ≡ false) (marks_there t.meant t.written tree t.same)
+      (none_among (mark_tells known) (file_marks t.written) λ m among.
+      mark_tells_none record { text = text; tokens = tokens } t.is_tree.cut lacks known m
+      (names_are_words known.edition text t.written m t.is_tree among));
 }

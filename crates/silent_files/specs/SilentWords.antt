@@ -7,7 +7,7 @@ use Rattle.tree.specs.declared.edition.Edition.{Edition}
 use Rattle.tree.specs.Syntax.{SourceFile}
 use Rattle.meaning.specs.Mentions.{file_marks}
 use Rattle.meaning.specs.Tracked.{Known, plain_makers, cause_makers}
-use Rattle.meaning.specs.TreeOfText.{IsTreeOf}
+use Rattle.meaning_reports.specs.MeantImports.{IsTreeButForImports}
 use Rattle.silent_files.specs.NamedWords.{LacksWord, LacksEach}
 use Rattle.silent_files.specs.SilentFiles.{mark_tells, names_recover}
 
@@ -19,13 +19,13 @@ cancel_types = codes "CancelFunc" ∷ codes "CancelCauseFunc" ∷ []
 abbrev pub telling_words : List (List ℕ)
 telling_words = plain_makers ++ (cause_makers ++ cancel_types)
 
--- what the tree of a text has no name for
+-- what the tree of a text has no name for, whatever paths its imports have
 pub record WordsTell : Type 0 where
   pub no_recover : (edition : Edition) (text : List ℕ) (tree : SourceFile)
-      → IsTreeOf edition text tree
+      → IsTreeButForImports edition text tree
       → LacksWord (codes "recover") text
       → list_any names_recover (file_marks tree) ≡ false
   pub none_tells : (text : List ℕ) (tree : SourceFile) (known : Known)
-      → IsTreeOf known.edition text tree
+      → IsTreeButForImports known.edition text tree
       → LacksEach telling_words text
       → list_any (mark_tells known) (file_marks tree) ≡ false

@@ -3,7 +3,7 @@
 use Rattle.std.specs.Prelude.{ℕ, ◌≡◌, ◌-◌, ◌^◌, Bool, true, false, min, not, List, length, map, count_by, sum_by}
 use Rattle.std.specs.List.{list_all}
 use Rattle.accepting.specs.Findings.{FindingEntry, FoundEntry, is_accepted, passes, plain_package, verdict_of}
-use Rattle.accepting.specs.Found.{found_in}
+use Rattle.accepting.specs.Found.{told_in}
 use Rattle.accepting.specs.Gone.{gone}
 use Rattle.accepting.specs.declared.findings.Verdict.{Verdict}
 use Rattle.accepting.specs.declared.findings.Verdict.TheVariants.{Yes, Accepted, No}
@@ -82,9 +82,10 @@ pub record IsToldOf (telling : Telling) (found : List FoundEntry) (report : Repo
   pub passes : report.passes ≡ list_all package_passes found
   pub are_counted : AreCounted (gone_in telling found) found report.counts
 
--- and of packages of which this is said, where `yes` tells whether nothing is to be said of any package
+-- and of packages of which this is said, but those that were not asked for, where `yes` tells whether nothing is to be
+-- said of any package
 pub record AreTold (telling : Telling) (reports : List PackageReport) (report : Report) : Type 0 where
-  pub is_told : IsToldOf telling (found_in telling (map plain_package reports)) report
+  pub is_told : IsToldOf telling (told_in telling (map plain_package reports)) report
   pub verdict : report.yes ≡ list_all is_yes reports
 
 abbrev pub IsTold : Telling → List Judged → Report → Type 0

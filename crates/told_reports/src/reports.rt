@@ -10,8 +10,7 @@ ghost use Rattle.told_reports.specs.Reports.{accepted_findings, gone_in, is_told
 
 use crate::text::Text;
 use accepting::{
-    Finding, FoundPackage, Telling, Verdict, explained_packages, found, gone, plain_packages,
-    verdict_of,
+    Finding, FoundPackage, Telling, Verdict, explained_packages, gone, plain_packages, verdict_of,
 };
 use one_package::{Judged, is_yes};
 use report::{ExplainedPackage, PackageReport, Wording};
@@ -201,7 +200,7 @@ pub fn report_from(
     ensures { IfOk result (AreTold telling.entry reports.now) }
 {
     let plain = plain_packages(alloc, reports)?;
-    let told = found(alloc, plain, telling)?;
+    let told = accepting::told(alloc, plain, telling)?;
     let text = text_of(alloc, telling, false, &told)?;
     let gone = gone_of(alloc, telling, &told)?;
     Ok(Report {
@@ -242,6 +241,6 @@ pub fn explained_text(
         text.items ≡ text_in telling.entry true (map explained_package packages.entry.items)) }
 {
     let explained = explained_packages(alloc, packages)?;
-    let told = found(alloc, explained, telling)?;
+    let told = accepting::told(alloc, explained, telling)?;
     text_of(alloc, telling, true, &told)
 }

@@ -3,14 +3,16 @@
 ghost use Rattle.std.specs.Prelude.{◌≡◌, flat_map, IfOk, map};
 ghost use Rattle.accepting.specs.Findings.{found_view};
 ghost use Rattle.report.specs.Writing.{refusals_after, IsWritten};
-ghost use Rattle.report_formats.specs.Told.{style_of};
+ghost use Rattle.format_parts.specs.Told.{style_of};
 ghost use Rattle.told_reports.specs.UnitTexts.{shape_text, unit_text_in};
 
 use crate::text::Text;
 use accepting::{FoundPackage, Telling, found};
+use format_parts::{Style, style_of};
 use report::{Sink, WriteFault};
-use report_formats::{Style, style_of, write_unit_json, write_unit_text};
+use report_formats::{write_unit_json, write_unit_text};
 use std::alloc::{AllocError, Global};
+use suggested_fixes::Fix;
 
 /// In which form the findings of a unit are told.
 #[derive(Clone, Copy, Debug)]
@@ -32,32 +34,34 @@ pub struct UnitForm<'n> {
 /// Writes the findings of a unit.
 fn write_unit<S: Sink>(
     shape: UnitShape<'_>,
+    fixes: &[Fix],
     style: Style,
     unit: &FoundPackage,
     sink: &mut S,
 ) -> Result<(), WriteFault>
-    ensures taken { IsWritten (shape_text shape.entry style (found_view unit.now))
+    ensures taken { IsWritten (shape_text shape.entry fixes.now style (found_view unit.now))
         (S.taken sink.old) (S.taken sink.new) result }
     ensures refusals { S.refusals sink.new ≡ refusals_after (S.refusals sink.old) result }
 {
     match shape {
         UnitShape::Text(around) => write_unit_text(style, unit, around, sink),
-        UnitShape::Json(name) => write_unit_json(style, name, unit, sink),
+        UnitShape::Json(name) => write_unit_json(style, fixes, name, unit, sink),
     }
 }
 
 fn write_units<S: Sink>(
     shape: UnitShape<'_>,
+    fixes: &[Fix],
     style: Style,
     packages: &[FoundPackage],
     sink: &mut S,
 ) -> Result<(), WriteFault>
-    ensures taken { IsWritten (flat_map (λ p. shape_text shape.entry style (found_view p)) packages.now)
+    ensures taken { IsWritten (flat_map (λ p. shape_text shape.entry fixes.now style (found_view p)) packages.now)
         (S.taken sink.old) (S.taken sink.new) result }
     ensures refusals { S.refusals sink.new ≡ refusals_after (S.refusals sink.old) result }
 {
     for unit in packages {
-        write_unit(shape, style, unit, sink)?;
+        write_unit(shape, fixes, style, unit, sink)?;
     }
     Ok(())
 }
@@ -83,6 +87,7 @@ pub fn unit_text(
     };
     match write_units(
         form.shape,
+        form.telling.fixes,
         style_of(form.telling, form.with_reasons),
         &told,
         &mut text,

@@ -1,3 +1,2 @@
-pub mod HandedOn
 mod UnitFaults
 mod UnitImports

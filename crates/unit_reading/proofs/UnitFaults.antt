@@ -1,19 +1,30 @@
 -- Faults of the file of a unit, and of what is kept of imported packages.
-use Rattle.std.proofs.Common.{◌≡◌, ℕ, List, Some, subst, sym}
-use Rattle.folders.specs.ReadFaults.{IsReadFault}
+use Rattle.std.proofs.Common.{◌≡◌, ◌∙◌, ℕ, List, Some, ap, option_and_then, string_bytes, subst, sym}
+use Rattle.folders.specs.Names.{IsNameIn}
+use Rattle.folders.specs.ReadFaults.{IsReadFaultOf}
+use Rattle.folders.specs.ReadFiles.{bytes_read, name_read}
 use Rattle.folders.specs.declared.fault.Fault.{Fault}
-use Rattle.folders.specs.declared.fault.Fault.TheVariants.{BadPackage, CannotRead, UnitNotJson, UnitWrongShape, VetxOfAnotherPackage, VetxOfAnotherEdition, VetxOfOtherFacts, OutOfMemory}
+use Rattle.folders.specs.declared.fault.Fault.TheVariants.{CannotRead, VetxOfAnotherPackage, VetxOfAnotherEdition, VetxOfOtherFacts, OutOfMemory}
+use Rattle.folders.specs.declared.whole_files.ReadFile.{ReadFile}
 use Rattle.unit_config.specs.UnitValues.{UnitEntry}
-use Rattle.unit_reading.specs.ToldImports.{IsTextFault, IsToldFault, IsVetxBytesFault}
+use Rattle.unit_reading.specs.ToldImports.{files_told, IsTextFault, IsToldFault, IsVetxBytesFault}
 use Rattle.unit_reading.specs.UnitsTold.{without_suffix, IsUnitBytesFault, IsUnitFileFault}
 
-pub of_unit_bytes : (bytes : List ℕ) (fault : Fault) → IsUnitBytesFault bytes fault → IsUnitFileFault fault
-of_unit_bytes bytes (CannotRead name) is = tt
-of_unit_bytes bytes OutOfMemory is = tt
-of_unit_bytes bytes UnitNotJson is = (bytes, is)
-of_unit_bytes bytes UnitWrongShape is = (bytes, is)
-of_unit_bytes bytes (BadPackage text) is = (bytes, is)
-of_unit_bytes bytes _ is = absurd is
+pub of_unit_read : (name : List ℕ) (fault : Fault) → IsReadFaultOf (λ told. told ≡ name) fault → IsUnitFileFault name fault
+of_unit_read name (CannotRead text) is = subst (λ n. IsNameIn n (string_bytes text)) is.is_one is.is_told
+of_unit_read name OutOfMemory is = tt
+of_unit_read name _ is = absurd is
+
+pub of_unit_bytes : (name bytes : List ℕ) (file : ReadFile) → name_read file ≡ name → bytes ≡ bytes_read file → (fault : Fault)
+    → IsUnitBytesFault bytes fault
+    → IsUnitFileFault name fault
+of_unit_bytes name bytes file named of (CannotRead text) is = absurd is
+of_unit_bytes name bytes file named of OutOfMemory is = tt
+of_unit_bytes name bytes file named of fault is = record {
+  file = file;
+  is_named = named;
+  is_fault = subst (λ b. IsUnitBytesFault b fault) of is;
+}
 
 -- a text in which nothing is kept
 pub of_text : (path : List ℕ) (edition : ℕ) (digest name bytes : List ℕ) (fault : Fault) → IsTextFault name bytes fault
@@ -24,36 +35,46 @@ of_text path edition digest name bytes (VetxOfOtherFacts text) is = absurd is
 of_text path edition digest name bytes _ is = is
 
 module _ (edition : ℕ) (digest : List ℕ) (unit : UnitEntry) where
-  pub of_reading : (fault : Fault) → IsReadFault fault → IsToldFault edition digest unit fault
-  of_reading (CannotRead name) is = tt
-  of_reading OutOfMemory is = tt
-  of_reading _ is = absurd is
-
   -- the file that tells of the package which the import means
-  pub of_vetx : (import path name bytes : List ℕ) → unit.imports import ≡ Some path → unit.told path ≡ Some name
-      → (fault : Fault)
-      → IsVetxBytesFault (without_suffix path) edition digest name bytes fault
+  meant_file : (import path name : List ℕ) → unit.imports import ≡ Some path → unit.told path ≡ Some name
+      → files_told unit import ≡ Some name
+  meant_file import path name meant file = ap (option_and_then unit.told) meant ∙ file
+
+  pub of_reading : (import path name : List ℕ) → Some path ≡ unit.imports import → Some name ≡ unit.told path → (fault : Fault)
+      → IsReadFaultOf (λ told. told ≡ name) fault
       → IsToldFault edition digest unit fault
-  of_vetx import path name bytes meant file (CannotRead text) is = tt
-  of_vetx import path name bytes meant file OutOfMemory is = tt
-  of_vetx import path name bytes meant file _ is = record {
+  of_reading import path name meant file (CannotRead text) is = record {
+    name = name;
+    is_one = (import, meant_file import path name (sym meant) (sym file));
+    is_told = subst (λ n. IsNameIn n (string_bytes text)) is.is_one is.is_told;
+  }
+  of_reading import path name meant file OutOfMemory is = tt
+  of_reading import path name meant file _ is = absurd is
+
+  of_vetx : (import path name : List ℕ) (read : ReadFile) → unit.imports import ≡ Some path → unit.told path ≡ Some name
+      → name_read read ≡ name
+      → (fault : Fault)
+      → IsVetxBytesFault (without_suffix path) edition digest name (bytes_read read) fault
+      → IsToldFault edition digest unit fault
+  of_vetx import path name read meant file named (CannotRead text) is = absurd is
+  of_vetx import path name read meant file named OutOfMemory is = tt
+  of_vetx import path name read meant file named _ is = record {
     import = import;
     path = path;
     is_meant = meant;
     name = name;
     is_file = file;
-    bytes = bytes;
-    is_fault = is;
+    is_fault = record { file = read; is_named = named; is_fault = is };
   }
 
-  pub of_file : (import path wanted name read bytes : List ℕ) → Some path ≡ unit.imports import
+  pub of_file : (import path wanted name : List ℕ) (read : ReadFile) → Some path ≡ unit.imports import
       → wanted ≡ without_suffix path
       → Some name ≡ unit.told path
-      → read ≡ name
+      → name_read read ≡ name
       → (fault : Fault)
-      → IsVetxBytesFault wanted edition digest read bytes fault
+      → IsVetxBytesFault wanted edition digest (name_read read) (bytes_read read) fault
       → IsToldFault edition digest unit fault
-  of_file import path wanted name read bytes meant is_wanted file is_named fault is =
-      of_vetx import path name bytes (sym meant) (sym file) fault
-      (subst (λ n. IsVetxBytesFault (without_suffix path) edition digest n bytes fault) is_named
-      (subst (λ w. IsVetxBytesFault w edition digest read bytes fault) is_wanted is))
+  of_file import path wanted name read meant is_wanted file is_named fault is =
+      of_vetx import path name read (sym meant) (sym file) is_named fault
+      (subst (λ n. IsVetxBytesFault (without_suffix path) edition digest n (bytes_read read) fault) is_named
+      (subst (λ w. IsVetxBytesFault w edition digest (name_read read) (bytes_read read) fault) is_wanted is))

@@ -2,7 +2,8 @@
 -- counts. Which bytes a file has, no contract can say.
 use Rattle.std.specs.Prelude.{◌≡◌, ◌≢◌, ◌⊎◌, ⊤, ℕ, Bool, List, Option, Some, None, if◌then◌else◌, All, map, option_and_then, string_bytes, ◌==◌, ◌&&◌, not}
 use Rattle.std.specs.Str.{IsUtf8, bytes_eq}
-use Rattle.folders.specs.Names.{IsPrintable}
+use Rattle.folders.specs.Names.{IsNameIn}
+use Rattle.folders.specs.ReadFaults.{IsFaultIn, NamesOneOf}
 use Rattle.folders.specs.ReadFiles.{bytes_read, name_read}
 use Rattle.folders.specs.declared.fault.Fault.{Fault}
 use Rattle.folders.specs.declared.fault.Fault.TheVariants.{CannotRead, VetxNotJson, VetxWrongShape, VetxWrongVersion, VetxOfAnotherPackage, VetxOfAnotherEdition, VetxOfOtherFacts, OutOfMemory}
@@ -20,9 +21,9 @@ use Rattle.unit_reading.specs.UnitsTold.{without_suffix}
 abbrev pub files_told : UnitEntry → Texts
 files_told unit import = option_and_then unit.told (unit.imports import)
 
--- the name of a file as the line of a fault has it
-abbrev pub IsNameIn : List ℕ → List ℕ → Type 0
-IsNameIn name text = IsPrintable name → text ≡ name
+-- this file tells of the package that some import means
+abbrev pub IsToldFile : UnitEntry → List ℕ → Type 0
+IsToldFile unit name = (import : List ℕ) × (files_told unit import ≡ Some name)
 
 -- why the file of this name and these bytes keeps nothing; what is not UTF-8 is no JSON
 abbrev pub IsTextFault : List ℕ → List ℕ → Fault → Type 0
@@ -85,30 +86,27 @@ module _ (edition : ℕ) (digest : List ℕ) (unit : UnitEntry) where
     pub each : All IsTold told
     pub are_imports : AreKeys (files_told unit) (map (λ t. t.import.now) told)
 
-  -- some bytes, those of the file that tells of the package which an import means, have this fault
+  -- the file that tells of the package which an import means was read, and its bytes have this fault
   pub record HaveVetxFault (fault : Fault) : Type 0 where
     pub import : List ℕ
     pub path : List ℕ
     pub is_meant : unit.imports import ≡ Some path
     pub name : List ℕ
     pub is_file : unit.told path ≡ Some name
-    pub bytes : List ℕ
-    pub is_fault : IsVetxBytesFault (without_suffix path) edition digest name bytes fault
+    pub is_fault : IsFaultIn name (IsVetxBytesFault (without_suffix path) edition digest name) fault
 
   -- the fault of what is read of imported packages
   abbrev pub IsToldFault : Fault → Type 0
-  IsToldFault (CannotRead name) = ⊤
+  IsToldFault (CannotRead text) = NamesOneOf (IsToldFile unit) (string_bytes text)
   IsToldFault OutOfMemory = ⊤
   IsToldFault fault = HaveVetxFault fault
 
 -- Which imports count
 
--- An import counts that means the package of just that path: one that go takes from a folder `vendor` has another path,
--- by which no package is imported. And by the first edition a package that has a fault as a whole counts only inside
--- its own module. Of any other import it is as if nothing were known. (By the second edition a package with such a
--- fault is passed over where its importers are judged, in every module.)
+-- By the first edition a package that has a fault as a whole counts only inside its own module. Of another import of it
+-- it is as if nothing were known. (By the second edition such a package is passed over where its importers are judged,
+-- in every module.)
 abbrev pub counts_in : List ℕ → ToldImport → Bool
 counts_in module_path told =
-    bytes_eq told.import.now (string_bytes told.kept.path)
-    && not ((told.kept.has_whole_fault && told.kept.edition == 1)
+    not ((told.kept.has_whole_fault && told.kept.edition == 1)
     && not (bytes_eq (string_bytes told.kept.module_path) module_path))

@@ -1,26 +1,16 @@
--- The file of a unit, which the go command has judged as one package: what it tells, and the import path in what it
--- tells. Which bytes a file has, no contract can say.
-use Rattle.std.specs.Prelude.{◌≡◌, ◌==◌, ⊤, ℕ, Bool, List, if◌then◌else◌, nat_eq, codes, string_bytes}
-use Rattle.std.specs.List.{before_first, ends_with}
-use Rattle.folders.specs.Names.{IsPrintable}
+-- The file of a unit, which the go command has judged as one package, and what it tells. Which bytes a file has, no
+-- contract can say.
+use Rattle.std.specs.Prelude.{◌≡◌, ⊤, ℕ, List, string_bytes}
+use Rattle.folders.specs.Names.{IsNameIn, IsPrintable}
+use Rattle.folders.specs.ReadFaults.{IsFaultIn}
 use Rattle.folders.specs.ReadFiles.{bytes_read, name_read}
 use Rattle.folders.specs.declared.fault.Fault.{Fault}
 use Rattle.folders.specs.declared.fault.Fault.TheVariants.{BadPackage, CannotRead, UnitNotJson, UnitWrongShape, OutOfMemory}
-use Rattle.lexer.specs.Bytes.{space}
+pub use Rattle.test_packages.specs.TestPaths.{without_suffix}
 use Rattle.unit_config.specs.UnitTexts.{IsUnitFault, IsUnitText}
 use Rattle.unit_config.specs.UnitValues.{unit_of, UnitEntry}
 use Rattle.unit_config.specs.declared.fault.UnitFault.TheVariants as unit_fault
 use Rattle.unit_reading.specs.declared.unit_file.UnitRead.{UnitRead}
-
--- Paths
-
-abbrev pub is_space : ℕ → Bool
-is_space b = b == space
-
--- The import path in a path as the go command writes it: of a package that is built for the tests of `p`, it adds
--- ` [p.test]`. No import path has a space.
-abbrev pub without_suffix : List ℕ → List ℕ
-without_suffix path = if ends_with nat_eq path (codes "]") then before_first is_space path else path
 
 -- The file of a unit
 
@@ -42,8 +32,8 @@ IsUnitBytesFault bytes (BadPackage text) = HaveBadPath bytes
 IsUnitBytesFault bytes OutOfMemory = ⊤
 IsUnitBytesFault bytes _ = ⊥
 
--- the fault of the file of a unit
-abbrev pub IsUnitFileFault : Fault → Type 0
-IsUnitFileFault (CannotRead name) = ⊤
-IsUnitFileFault OutOfMemory = ⊤
-IsUnitFileFault fault = (bytes : List ℕ) × IsUnitBytesFault bytes fault
+-- the fault of the file of a unit, which has this name
+abbrev pub IsUnitFileFault : List ℕ → Fault → Type 0
+IsUnitFileFault name (CannotRead text) = IsNameIn name (string_bytes text)
+IsUnitFileFault name OutOfMemory = ⊤
+IsUnitFileFault name fault = IsFaultIn name IsUnitBytesFault fault

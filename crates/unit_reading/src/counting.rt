@@ -8,13 +8,12 @@ use crate::vetx_input::ToldImport;
 /// The number of the first edition.
 const FIRST: u32 = 1;
 
-/// Whether what is kept of an imported package counts in this module. The import has to mean the package of just that
-/// path. Where this has a fault as a whole, by the first edition its own module alone is told of it.
+/// Whether what is kept of an imported package counts in this module. Where the package has a fault as a whole, by the
+/// first edition its own module alone is told of it.
 pub fn counts_in(module_path: &str, told: &ToldImport<'_>) -> bool
     ensures { result ≡ counts_in module_path.now told.now }
 {
-    told.import == told.kept.path.as_str()
-        && !(told.kept.has_whole_fault
-            && told.kept.edition == FIRST
-            && told.kept.module_path.as_str() != module_path)
+    !(told.kept.has_whole_fault
+        && told.kept.edition == FIRST
+        && told.kept.module_path.as_str() != module_path)
 }

@@ -7,5 +7,6 @@ mod unit_file;
 mod vetx_input;
 
 pub use counting::counts_in;
-pub use unit_file::{UnitRead, read_unit_file, without_suffix};
+pub use test_packages::without_suffix;
+pub use unit_file::{UnitRead, read_unit_file};
 pub use vetx_input::{JudgedBy, ToldImport, read_told};

@@ -1,8 +1,7 @@
 //! The file of a unit.
 
 ghost use Rattle.std.specs.Prelude.{◌≡◌, ℕ, List, IfErr, IfOk, string_bytes};
-ghost use Rattle.std.specs.List.{before_first};
-ghost use Rattle.unit_reading.specs.UnitsTold.{is_space, without_suffix, IsUnitBytesFault, IsUnitFileFault, IsUnitRead};
+ghost use Rattle.unit_reading.specs.UnitsTold.{without_suffix, IsUnitBytesFault, IsUnitFileFault, IsUnitRead};
 ghost use Rattle.folders.specs.Names.{IsPrintable};
 ghost use Rattle.unit_config.specs.UnitTexts.{IsUnitFault, IsUnitText};
 ghost use Rattle.unit_config.specs.UnitValues.{unit_of};
@@ -10,6 +9,7 @@ ghost use Rattle.unit_config.specs.UnitValues.{unit_of};
 use folders::{Fault, ReadFile, escaped, is_printable, read_file};
 use std::alloc::Global;
 use std::rt::Files;
+use test_packages::without_suffix;
 use unit_config::{Unit, UnitFault, read_unit};
 
 /// A unit, and the file that tells of it.
@@ -29,7 +29,7 @@ pub fn read_unit_file<'a, R: Files + AllocGlobal>(
     name: &'a str,
 ) -> Result<UnitRead<'a>, Fault>
     ensures read { IfOk result (IsUnitRead name.now) }
-    ensures fault { IfErr result IsUnitFileFault }
+    ensures fault { IfErr result (IsUnitFileFault name.now) }
 {
     let file = read_file(rt, name)?;
     let unit = unit_in(rt.alloc(), file.bytes())?;
@@ -51,27 +51,6 @@ fn unit_in(alloc: Global, bytes: &[u8]) -> Result<Unit, Fault>
         Ok(unit)
     } else {
         Err(Fault::BadPackage(escaped(alloc, path)?))
-    }
-}
-
-/// The import path in a path as the go command writes it, which may have the name of a test in brackets behind it.
-pub fn without_suffix(path: &str) -> &str
-    ensures { result.now ≡ without_suffix path.now }
-{
-    if path.as_bytes().ends_with(b"]") {
-        before_space(path)
-    } else {
-        path
-    }
-}
-
-/// What stands in the path before its first space.
-fn before_space(path: &str) -> &str
-    ensures { result.now ≡ before_first is_space path.now }
-{
-    match path.split_once(' ') {
-        Some((front, _)) => front,
-        None => path,
     }
 }
 

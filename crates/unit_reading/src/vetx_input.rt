@@ -7,10 +7,10 @@ ghost use Rattle.vetx_json.specs.KeptUnits.{vetx_of, IsInOrder};
 ghost use Rattle.vetx_json.specs.VetxTexts.{IsVetxFault, IsVetxText};
 ghost use Rattle.unit_reading.specs.ToldImports.{AreTold, IsKeptIn, IsReadOf, IsTextFault, IsToldFault, IsVetxBytesFault};
 
-use crate::unit_file::without_suffix;
 use folders::{Fault, ReadFile, escaped, read_file};
 use std::alloc::{AllocError, Global};
 use std::rt::Files;
+use test_packages::without_suffix;
 use unit_config::Unit;
 use vetx_json::{Vetx, VetxFault, from_json};
 

@@ -6,5 +6,5 @@ pub mod UnitTold
 pub mod UnitNames
 pub mod UnitLaws
 pub mod UnitYes
-mod UnitSilence
+pub mod UnitSilence
 mod OneUnit

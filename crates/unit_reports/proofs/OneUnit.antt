@@ -9,7 +9,7 @@ use Rattle.unit_reports.specs.Units.{IsUnitFault, IsUnitReport}
 use Rattle.unit_reports.specs.declared.units.ImportedUnit.{ImportedUnit}
 use Rattle.told_reports.specs.declared.unit.UnitForm.{UnitForm}
 use Rattle.unit_reports.specs.declared.units.UnitReport.{UnitReport}
-use Rattle.load.specs.GivenPackages.{AreLoaded, PathAndFiles, entry_of}
+use Rattle.load.specs.GivenPackages.{AreLoaded, PathAndFiles, entry_of, paths_of}
 use Rattle.load.specs.LoadedBeside.{IsLoadBeside}
 use Rattle.load.specs.Readings.{IsLoadedAs}
 use Rattle.load.specs.declared.loaded.Loaded.{Loaded}
@@ -37,7 +37,7 @@ record IsOnlyLoaded (e : PathAndFiles) (ps : List LoadedPackage) (ks : List Kept
   k : KeptPackage
   is_meant : ps ≡ p ∷ []
   is_kept : ks ≡ k ∷ []
-  is_loaded : IsLoadedAs e.1.0 (string_bytes e.0) e.1.1.items p k
+  is_loaded : IsLoadedAs e.1.edition (string_bytes e.0) (paths_of e.1.imports) e.1.sources.items p k
 
 only_loaded : (e : PathAndFiles) (ps : List LoadedPackage) (ks : List KeptPackage) → AreLoaded (e ∷ []) ps ks
     → IsOnlyLoaded e ps ks

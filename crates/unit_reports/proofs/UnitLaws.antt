@@ -14,7 +14,7 @@ use Rattle.imports.proofs.GivenImports.{first_there, there_first}
 use Rattle.imports.specs.Ranks.{Package, Imports, Chain, HasRank, ends, goes_on}
 use Rattle.imports.specs.Settling.{place_from}
 use Rattle.unit_reports.proofs.UnitNames.{named_again}
-use Rattle.unit_reports.specs.UnitLaws.{UnitRun, IsKeptOf, IsToldOfRun, AreOfTexts, AreUnitRuns, edition_number, said_by, UnitRunsAreTheReport}
+use Rattle.unit_reports.specs.UnitLaws.{UnitRun, IsKeptOf, IsToldOfRun, KeepsInOrder, AreOfTexts, AreUnitRuns, edition_number, said_by, UnitRunsAreTheReport}
 use Rattle.unit_reports.specs.Units.{AreImportsTold, IsRightlyTold, counts_so, kept_of, name_if_any, name_so, told_by_vetx, told_of_path, told_of_package, tellings_in}
 use Rattle.unit_reports.specs.declared.units.ImportedUnit.{ImportedUnit}
 use Rattle.meaning.proofs.Membership.{contains_here, contains_there}
@@ -156,24 +156,25 @@ module _ (outside : List PackageEntry) (ps : List LoadedPackage) (runs : List (U
 
   -- What each is told is right
 
-  counts_there : {i : ℕ} {one : ImportedUnit} (w : IsToldOfRun ps runs i one) → counts_so (kept_of one) ≡ counts_as_given w.imported
-  counts_there {one = one} w =
+  counts_there : {i : ℕ} {one : ImportedUnit} (w : IsToldOfRun ps runs i one) → KeepsInOrder w.run.report
+      → counts_so (kept_of one) ≡ counts_as_given w.imported
+  counts_there {one = one} w ordered =
       let q = w.imported in
       let tells = are.are_of w.place q w.run w.is_imported w.is_run in
       let fault = w.run.is_report.is_fault ps w.place q w.is_imported tells distinct (is_ranked w.place) in
       let same : counts_so (kept_of one) ≡ not (w.run.report.has_whole_fault && (edition_number q.edition == 2)) =
-      λ k. not (w.is_kept.is_fault k && (w.is_edition k == 2)) in
+      λ k. not ((w.is_kept ordered).is_fault k && (w.is_edition ordered k == 2)) in
       same
       ∙ counted_so ps w.place q w.is_imported (is_ranked w.place) w.run.report.has_whole_fault fault q.edition refl
       w.run.report.has_whole_fault refl
 
-  told_right : (i : ℕ) (one : ImportedUnit) → IsToldOfRun ps runs i one → IsRightlyTold ps one
-  told_right i one w =
+  told_right : (i : ℕ) (one : ImportedUnit) (w : IsToldOfRun ps runs i one) → KeepsInOrder w.run.report → IsRightlyTold ps one
+  told_right i one w ordered =
       let q = w.imported in
       let tells = are.are_of w.place q w.run w.is_imported w.is_run in
-      let counts_right = counts_there w in
+      let counts_right = counts_there w ordered in
       let name : name_if_any (kept_of one).name ≡ name_in (trees_of q) =
-      ap name_if_any (w.is_kept.is_name ∙ w.run.is_report.is_name q tells)
+      ap name_if_any ((w.is_kept ordered).is_name ∙ w.run.is_report.is_name q tells)
       ∙ named_again q.edition (trees_of q) (texts w.place q w.is_imported) in
       let named : name_so (kept_of one) ≡ name_of (Some q) = λ k. if counts_right k then name k else None in
       record {
@@ -187,9 +188,11 @@ module _ (outside : List PackageEntry) (ps : List LoadedPackage) (runs : List (U
       }
 
   imports_told : (i : ℕ) (p : LoadedPackage) (run : UnitRun outside) → slice_get ps i ≡ Some p → slice_get runs i ≡ Some run
+      → ((one : ImportedUnit) (w : IsToldOfRun ps runs i one) → KeepsInOrder w.run.report)
       → AreImportsTold ps p run.told
-  imports_told i p run is its = record {
-    are_right = λ one h names. told_right i one (are.in_order.are_told i p run one is its h names);
+  imports_told i p run is its ordered = record {
+    are_right = λ one h names.
+        let w = are.in_order.are_told i p run one is its h names in told_right i one w (ordered one w);
     are_all = λ path names given.
         let n = some_from (place_from path (import_list ps) 0) given in
         let first = first_there (import_list ps) path n.0 n.1 in
@@ -260,6 +263,13 @@ module _ (outside : List PackageEntry) (ps : List LoadedPackage) (runs : List (U
       → AreKept (table_view run.is_report.judged) (map function_of run.report.functions.items)
   again i p run is its right = run.is_report.are_kept ps tables i p (are.are_of i p run is its) right.is_table
 
+  keeps_so : (i : ℕ) (p : LoadedPackage) (run : UnitRun outside) → slice_get ps i ≡ Some p → slice_get runs i ≡ Some run
+      → IsRightRun i p run
+      → KeepsInOrder run.report
+  keeps_so i p run is its right =
+      let kept = again i p run is its right in
+      record { names_rise = kept.names_rise; each_in_order = kept.each_in_order }
+
   -- what is told of an import is what its run says
   tells_import : (i j : ℕ) (p q : LoadedPackage) (run imported : UnitRun outside) → slice_get ps i ≡ Some p
       → slice_get ps j ≡ Some q
@@ -275,13 +285,15 @@ module _ (outside : List PackageEntry) (ps : List LoadedPackage) (runs : List (U
       let of = are.in_order.are_told i p run w.0 is its w.1 names in
       let place = distinct.same of.place j of.imported q of.is_imported is_q (sym of.is_path ∙ w.2) in
       let same = same_Some of.run imported (sym of.is_run ∙ (ap (slice_get runs) place ∙ its_q)) in
+      let ordered : KeepsInOrder of.run.report =
+      subst (λ (r : UnitRun outside). KeepsInOrder r.report) (sym same) (keeps_so j q imported is_q its_q right) in
       ap (told_of_package run.told) is_q
       ∙ (t.1 ∙ ap Some (sym w.3 ∙ tells_so imported (kept_of w.0)
-      (subst (λ (r : UnitRun outside). IsKeptOf r.report (kept_of w.0)) same of.is_kept) (again j q imported is_q its_q right)
+      (subst (λ (r : UnitRun outside). IsKeptOf r.report (kept_of w.0)) same (of.is_kept ordered)) (again j q imported is_q its_q right)
       (counts_so (kept_of w.0)) refl
       (λ off. empty_so j q tables (said_by imported).table is_q
       (sym (ap counts_as_given (same_Some of.imported q (sym of.is_imported ∙ (ap (slice_get ps) place ∙ is_q))))
-      ∙ (sym (counts_there of) ∙ off)) right.is_table)))
+      ∙ (sym (counts_there of ordered) ∙ off)) right.is_table)))
 
   right_run : (n i : ℕ) (p : LoadedPackage) (run : UnitRun outside) → slice_get ps i ≡ Some p → slice_get runs i ≡ Some run
       → run.time < n
@@ -308,9 +320,15 @@ module _ (outside : List PackageEntry) (ps : List LoadedPackage) (runs : List (U
                     (sym (tells_import i j p q run other.0 is is_q its other.1 im so) ∙ found);
               }
 
+          ordered : (one : ImportedUnit) (w : IsToldOfRun ps runs i one) → KeepsInOrder w.run.report
+          ordered one w =
+              keeps_so w.place w.imported w.run w.is_imported w.is_run
+              (before w.place w.imported w.run w.is_imported w.is_run
+              (are.in_order.are_in_time i w.place run w.run w.imports its w.is_run))
+
           result : IsResult rules ps i p (said_by run)
           result known right =
-              run.is_report.is_judged.follows ps i p is (are.are_of i p run is its) (is_ranked i) (imports_told i p run is its) known
+              run.is_report.is_judged.follows ps i p is (are.are_of i p run is its) (is_ranked i) (imports_told i p run is its ordered) known
               (have_told rules flags_by_paths ps known i (tellings_in ps run.told) right told_there)
 
           right : AreRightBelow rules ps tables i
@@ -328,6 +346,11 @@ module _ (outside : List PackageEntry) (ps : List LoadedPackage) (runs : List (U
   each_right : (i : ℕ) (p : LoadedPackage) (run : UnitRun outside) → slice_get ps i ≡ Some p → slice_get runs i ≡ Some run
       → IsRightRun i p run
   each_right i p run is its = right_run (suc run.time) i p run is its (omega arith)
+
+  -- each keeps what it keeps in order
+  pub keep_in_order : (i : ℕ) (p : LoadedPackage) (run : UnitRun outside) → slice_get ps i ≡ Some p → slice_get runs i ≡ Some run
+      → KeepsInOrder run.report
+  keep_in_order i p run is its = keeps_so i p run is its (each_right i p run is its)
 
   results : AreResults rules ps (slice_get (map said_by runs))
   results i p said is found = by (slice_get runs i) refl (sym (slice_get-map said_by runs i) ∙ found)

@@ -7,6 +7,7 @@ use Rattle.meaning.proofs.Membership.{contains_here, contains_there}
 use Rattle.meaning.specs.Cursor.{first_start}
 use Rattle.meaning.specs.TreeOfText.{IsTreeOf}
 use Rattle.meaning_reports.specs.Loaded.{name_in}
+use Rattle.meaning_reports.specs.MeantImports.{IsTreeButForImports}
 use Rattle.meaning_runs.proofs.BodyOffsetsTokens.{Ordered, first_ordered, tokens_ordered, tokens_under}
 use Rattle.unit_reports.specs.Units.{name_if_any, name_or_empty}
 use Rattle.tree.specs.Syntax.{SourceFile}
@@ -47,8 +48,10 @@ clause_named edition text tree t =
 
 -- of trees of texts the name that is kept tells whether there is one
 pub named_again : (edition : Edition) (trees : List SourceFile)
-    → ((tree : SourceFile) → Contains trees tree → (text : List ℕ) × IsTreeOf edition text tree)
+    → ((tree : SourceFile) → Contains trees tree → (text : List ℕ) × IsTreeButForImports edition text tree)
     → name_if_any (name_or_empty (name_in trees)) ≡ name_in trees
 named_again edition [] texts = refl
 named_again edition (tree ∷ trees) texts =
-    let t = texts tree (contains_here tree trees) in clause_named edition t.0 tree t.1
+    let t = texts tree (contains_here tree trees) in
+    subst (λ (file : SourceFile). name_if_any file.package_name.text ≡ Some file.package_name.text) t.1.same
+    (clause_named edition t.0 t.1.written t.1.is_tree)

@@ -23,9 +23,9 @@ use Rattle.report.specs.declared.diagnostics.Diagnostic.{Diagnostic}
 use Rattle.report.specs.declared.notes.ExplainedDiagnostic.{ExplainedDiagnostic}
 use Rattle.report.specs.declared.notes.ExplainedPackage.{ExplainedPackage}
 use Rattle.report_formats.specs.ReportLines.{finding_line}
-use Rattle.report_formats.specs.Told.{is_told, style_of}
+use Rattle.format_parts.specs.Told.{is_told, style_of}
 use Rattle.report_formats.specs.UnitText.{unit_lines, unit_text, unit_told}
-use Rattle.report_formats.specs.declared.style.Style.{Style}
+use Rattle.format_parts.specs.declared.style.Style.{Style}
 use Rattle.told_reports.specs.UnitTexts.{shape_text, unit_text_in}
 use Rattle.told_reports.specs.declared.unit.UnitForm.{UnitForm}
 use Rattle.told_reports.specs.declared.unit.UnitShape.{UnitShape}
@@ -143,7 +143,7 @@ nothing_explained (x ∷ es) e = absurd (false≢true e)
 
 module _ (form : UnitForm) (judged : Judged) (AreNotes : ExplainedPackage → Type 0) (text : List ℕ) where
   text_by : (shape : UnitShape) → is_text shape ≡ true → form.telling.tells_accepted ≡ true → (p : FoundEntry)
-      → flat_map (shape_text shape (style_of form.telling form.with_reasons)) (found_in form.telling (p ∷ [])) ≡ []
+      → flat_map (shape_text shape form.telling.fixes.now (style_of form.telling form.with_reasons)) (found_in form.telling (p ∷ [])) ≡ []
       → p.findings ≡ []
   text_by (Text around) prints tells p e =
       found_text (style_of form.telling form.with_reasons) tells around form.telling.wording form.telling.tells_stale
@@ -152,7 +152,7 @@ module _ (form : UnitForm) (judged : Judged) (AreNotes : ExplainedPackage → Ty
 
   none_by : (shape : UnitShape) → is_text shape ≡ true → form.telling.tells_stale ≡ false → (p : FoundEntry)
       → p.findings ≡ []
-      → flat_map (shape_text shape (style_of form.telling form.with_reasons)) (found_in form.telling (p ∷ [])) ≡ []
+      → flat_map (shape_text shape form.telling.fixes.now (style_of form.telling form.with_reasons)) (found_in form.telling (p ∷ [])) ≡ []
   none_by (Text around) prints off p none =
       nothing_found around form.telling.wording form.telling.tells_stale off (style_of form.telling form.with_reasons)
       (baseline_keys form.telling.baseline.now) p none

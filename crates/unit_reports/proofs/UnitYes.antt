@@ -6,7 +6,7 @@ use Rattle.std.proofs.lemmas.Option.{none-some, same_Some, slice_get-map, slice_
 use Rattle.declared_json.specs.DeclaredPackages.{PackageEntry}
 use Rattle.declared_tables.specs.DeclaredTables.{declared_tables}
 use Rattle.one_package.proofs.NothingSaid.{no_entry}
-use Rattle.unit_reports.proofs.UnitLaws.{unit_runs_are_the_report}
+use Rattle.unit_reports.proofs.UnitLaws.{keep_in_order, unit_runs_are_the_report}
 use Rattle.unit_reports.specs.UnitLaws.{AreOfTexts, AreUnitRuns, GivenRun, QuietGivenUnits, QuietUnits, UnitRun, YesUnitsAreQuiet, as_unit_run, meant_by, said_by}
 use Rattle.meaning_reports.proofs.OneReport.{one_report}
 use Rattle.meaning_reports.specs.Loaded.{LoadedPackage}
@@ -47,6 +47,9 @@ quiet_units outside ps runs distinct texts are =
       each_yes_is_quiet = λ i run its is_yes.
           let p = package_of outside ps runs are i run its in
           yes_units_are_quiet outside ps runs i p.0 run is_report distinct texts p.1 its is_yes;
+      each_keeps_in_order = λ i run its.
+          let p = package_of outside ps runs are i run its in
+          keep_in_order outside ps runs distinct texts are i p.0 run p.1 its;
     }
 
 -- the run at a place of what is made of all of them

@@ -7,6 +7,7 @@ use Rattle.unit_reports.specs.declared.one_unit.UnitReportFault.TheVariants.{Not
 use Rattle.unit_reports.specs.declared.units.ImportedUnit.{ImportedUnit}
 use Rattle.told_reports.specs.declared.unit.UnitForm.{UnitForm}
 use Rattle.unit_reports.specs.declared.units.UnitReport.{UnitReport}
+use Rattle.load.specs.GivenPackages.{paths_of}
 use Rattle.load.specs.LoadedBeside.{IsLoadBeside, IsLoadFaultBeside}
 use Rattle.load.specs.Readings.{IsLoadedAs}
 use Rattle.load.specs.declared.loaded.Loaded.{Loaded}
@@ -18,13 +19,14 @@ use Rattle.vetx_tables.specs.declared.fault.KeptFault.TheVariants as kept_fault
 use Rattle.whole_packages.specs.declared.loaded_package.LoadedPackage.{LoadedPackage as KeptPackage}
 
 -- The package can be loaded, and nothing is declared of it. It is loaded: of its files, in the order of their names, is
--- kept what was read of them, and each tree is that of a text.
+-- kept what was read of them, and each tree is that of a text, but that its imports have the paths that are meant.
 pub record IsLoadedAlone (outside : List PackageEntry) (given : GivenPackage) (kept : KeptPackage) : Type 0 where
   pub loaded : Loaded
   pub load : IsLoadBeside (given ∷ []) outside loaded
   pub is_only : loaded.packages.items ≡ kept ∷ []
   pub meant : LoadedPackage
-  pub is_loaded : IsLoadedAs given.edition (string_bytes given.path) given.sources.items meant kept
+  pub is_loaded
+      : IsLoadedAs given.edition (string_bytes given.path) (paths_of given.imports) given.sources.items meant kept
   pub of_texts : AreTreesOfTexts meant
 
 -- it is the report of what was loaded, in this form, by what was told of imports, and where that is declared of others

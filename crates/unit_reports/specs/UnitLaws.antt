@@ -2,12 +2,14 @@
 -- was kept of these, what they say is the report of all packages in one run. So each yes among them says of runs what a
 -- yes of that report says. And a yes is a unit whose text is empty, where that is no JSON.
 use Rattle.std.specs.Prelude.{ℕ, ◌≡◌, ◌<◌, ◌↔◌, Bool, true, false, List, [], length, map, Contains, Some, is_some, slice_get, string_bytes}
+use Rattle.std.specs.List.{AllByRecursion}
 use Rattle.declared_json.specs.DeclaredPackages.{PackageEntry}
 use Rattle.declared_tables.specs.DeclaredTables.{declared_tables}
 use Rattle.imports.specs.Ranks.{Imports}
 use Rattle.unit_reports.specs.OneUnit.{IsReportOfUnit}
 use Rattle.unit_reports.specs.Units.{IsUnitReport, kept_of, told_of_path}
 use Rattle.unit_reports.specs.declared.units.ImportedUnit.{ImportedUnit}
+use Rattle.table_json.specs.Tables.{Rise, by_bytes, HasOrder}
 use Rattle.told_reports.specs.declared.unit.UnitForm.{UnitForm}
 use Rattle.told_reports.specs.declared.unit.UnitShape.{UnitShape}
 use Rattle.told_reports.specs.declared.unit.UnitShape.TheVariants.{Text, Json}
@@ -21,7 +23,7 @@ use Rattle.meaning_runs.specs.Runs.{IsQuietProgram}
 use Rattle.one_package.specs.Judgments.{said_view}
 use Rattle.tree.specs.declared.edition.Edition.{Edition}
 use Rattle.tree.specs.declared.edition.Edition.TheVariants.{First, Second}
-use Rattle.vetx_json.specs.KeptUnits.{VetxEntry, function_of}
+use Rattle.vetx_json.specs.KeptUnits.{VetxEntry, facts_of, function_of, name_of}
 use Rattle.whole_packages.specs.LoadedViews.{TellsPackage}
 use Rattle.whole_packages.specs.declared.loaded_package.LoadedPackage.{LoadedPackage as KeptPackage}
 
@@ -41,12 +43,17 @@ pub record IsKeptOf (report : UnitReport) (v : VetxEntry) : Type 0 where
   pub is_yes : v.is_yes ≡ report.is_yes
   pub are_functions : v.functions ≡ map function_of report.functions.items
 
+-- the functions that it keeps are in order: their names rise, and each is in order
+pub record KeepsInOrder (report : UnitReport) : Type 0 where
+  pub names_rise : Rise by_bytes name_of (map function_of report.functions.items)
+  pub each_in_order : AllByRecursion (λ f. HasOrder (facts_of f)) (map function_of report.functions.items)
+
 -- the number by which what is kept of a package tells its edition
 abbrev pub edition_number : Edition → ℕ
 edition_number First = 1
 edition_number Second = 2
 
--- what is told is what was kept of an import, when that was judged
+-- what is told is what was kept of an import, when that was judged, where it was kept in order
 pub record IsToldOfRun
     {outside : List PackageEntry} (ps : List LoadedPackage) (runs : List (UnitRun outside)) (i : ℕ) (one : ImportedUnit)
     : Type 0 where
@@ -57,8 +64,8 @@ pub record IsToldOfRun
   pub is_run : slice_get runs place ≡ Some run
   pub imports : Imports (import_list ps) i place
   pub is_path : one.path.now ≡ imported.path
-  pub is_kept : IsKeptOf run.report (kept_of one)
-  pub is_edition : (kept_of one).edition ≡ edition_number imported.edition
+  pub is_kept : KeepsInOrder run.report → IsKeptOf run.report (kept_of one)
+  pub is_edition : KeepsInOrder run.report → (kept_of one).edition ≡ edition_number imported.edition
 
 -- Each was told of the given packages that it imports, and of no others that it imports; what was kept of these; and
 -- these were judged before.
@@ -91,7 +98,7 @@ pub record AreUnitRuns (outside : List PackageEntry) (ps : List LoadedPackage) (
       → TellsPackage p run.loaded
   pub in_order : AreToldInOrder outside ps runs
 
--- each tree of the packages is that of a text
+-- each tree of the packages is that of a text, but for the paths of its imports
 abbrev pub AreOfTexts : List LoadedPackage → Type 0
 AreOfTexts ps = (i : ℕ) (p : LoadedPackage) → slice_get ps i ≡ Some p → AreTreesOfTexts p
 
@@ -118,7 +125,7 @@ YesUnitsAreQuiet = (outside : List PackageEntry) (ps : List LoadedPackage) (runs
     → IsQuietProgram (program_of ps is_report.tables (declared_tables outside) i)
 
 -- What the runs say is the report of all, and each report of all in one run says just that. By its tables each package
--- of which its run says nothing is quiet.
+-- of which its run says nothing is quiet. And each keeps in order what it keeps.
 pub record AreQuietUnits (outside : List PackageEntry) (ps : List LoadedPackage) (runs : List (UnitRun outside))
     : Type 0 where
   pub is_report : IsReportBy (by_paths (declared_tables outside)) ps (map said_by runs)
@@ -129,6 +136,7 @@ pub record AreQuietUnits (outside : List PackageEntry) (ps : List LoadedPackage)
       → slice_get runs i ≡ Some run
       → run.report.is_yes ≡ true
       → IsQuietProgram (program_of ps is_report.tables (declared_tables outside) i)
+  pub each_keeps_in_order : (i : ℕ) (run : UnitRun outside) → slice_get runs i ≡ Some run → KeepsInOrder run.report
 
 -- whenever packages were judged so in order, each with what its imports kept
 abbrev pub QuietUnits : Type 0

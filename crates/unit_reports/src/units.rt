@@ -52,6 +52,8 @@ pub struct UnitReport {
     pub name: String,
     /// Its functions, in the order of their names.
     pub functions: Vec<KeptFunction>,
+    /// The fields in which it keeps cancel functions, if it is yes: for notes alone.
+    pub keeping: Vec<String>,
 }
 
 /// What is told of an imported package, with the table that is made of it.
@@ -280,6 +282,15 @@ fn read_unit<'a>(
     Ok(ReadImports { paths, read })
 }
 
+/// These texts, each with memory of its own.
+fn own_texts(alloc: Global, texts: &[&str]) -> Result<Vec<String>, AllocError> {
+    let mut own = Vec::new(alloc);
+    for text in texts {
+        own.push(String::from_str(alloc, text)?)?;
+    }
+    Ok(own)
+}
+
 /// Judges a package by what was kept of those that it imports, beside what is known of it as given alone.
 fn judge_given<'a>(
     alloc: Global,
@@ -317,6 +328,7 @@ pub fn unit_report_of<'a>(
     let has_whole_fault = is_first_marked(&given.faulty);
     let is_yes = is_yes(&unit.judged.report);
     let name = name_of(alloc, &loaded.trees)?;
+    let keeping = own_texts(alloc, &unit.judged.report.keeping)?;
     let functions = kept_functions(alloc, loaded, &unit.judged)?;
     Ok(UnitReport {
         text: unit.text,
@@ -324,5 +336,6 @@ pub fn unit_report_of<'a>(
         has_whole_fault,
         name,
         functions,
+        keeping,
     })
 }

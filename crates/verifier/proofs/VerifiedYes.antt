@@ -8,7 +8,7 @@ use Rattle.meaning.proofs.Membership.{contains_here, contains_there, contains_ma
 use Rattle.meaning.specs.BodyEvents.{seen_file, sites_of}
 use Rattle.meaning.specs.Code.{Code, skip, does, leave, then_code, either, repeats, up_to}
 use Rattle.meaning.specs.Tracked.{Known}
-use Rattle.meaning.specs.TreeOfText.{IsTreeOf}
+use Rattle.meaning_reports.specs.MeantImports.{IsTreeButForImports}
 use Rattle.meaning.specs.Uses.{Event}
 use Rattle.meaning_packages.specs.CallsFlags.{FileWithCredits, calls_by}
 use Rattle.meaning_packages.specs.Credits.{AreFairCredits}
@@ -38,7 +38,7 @@ nodes_are (either a b) = λ i. nodes_are b i ++ nodes_are a i
 nodes_are (repeats a) = nodes_are a
 nodes_are (up_to w a) = nodes_are a
 
-pub places_of_text : (text : List ℕ) (tree : SourceFile) (known : Known) → IsTreeOf known.edition text tree
+pub places_of_text : (text : List ℕ) (tree : SourceFile) (known : Known) → IsTreeButForImports known.edition text tree
     → BodiesHaveOwnPlaces (seen_file known tree)
 places_of_text text tree known is b promises there n m o p is_o is_p same same_order =
     let code = (paths_of (seen_file known tree) promises b).code in

@@ -3,8 +3,8 @@ use Rattle.std.specs.Prelude.{ℕ, ◌≡◌, List, [], ◌∷◌, flat_map, len
 use Rattle.lexer.specs.declared.source.Source.{Source}
 use Rattle.tree.specs.Syntax.{SourceFile}
 use Rattle.tree.specs.View.{file_syntax}
-use Rattle.meaning.specs.TreeOfText.{IsTreeOf}
 use Rattle.imports.specs.Ranks.{Package}
+use Rattle.meaning_reports.specs.MeantImports.{IsTreeButForImports}
 pub use Rattle.meaning_reports.specs.Loaded.{HaveDistinctPaths}
 use Rattle.meaning_reports.specs.Loaded.{Reading, has_tree, has_text_fault, has_tree_fault, LoadedPackage, NumberedTree, trees_from, trees_of, imports_of}
 use Rattle.whole_packages.specs.declared.loaded_package.Reading.{Reading as KeptReading}
@@ -29,11 +29,11 @@ pub record TellsPackage (p : LoadedPackage) (kept : KeptPackage) : Type 0 where
   pub are_trees : trees_of p ≡ map file_syntax kept.trees.items
   -- and that of readings
   pub are_readings : length p.files ≡ length kept.readings.items
-  -- each tree is that of its file's text, in that edition
+  -- each tree is that of its file's text, in that edition, but for the paths of imports
   pub are_of_texts : (i : ℕ) (s : Source) (tree : SourceFile)
       → slice_get kept.sources.items i ≡ Some s
       → slice_get p.files i ≡ Some (has_tree tree)
-      → IsTreeOf p.edition s.bytes.items tree
+      → IsTreeButForImports p.edition s.bytes.items tree
 
 pub record TellPackages (ps : List LoadedPackage) (kept : List KeptPackage) : Type 0 where
   pub are_as_many : length ps ≡ length kept

@@ -2,13 +2,13 @@ use Rattle.std.proofs.Common.{◌≡◌, false, true≢false, IsErrAnd, refl, ru
 use Rattle.std.specs.Io.KnownBytes.{Appends}
 use Rattle.folders.specs.declared.fault.Fault.TheVariants.{CannotWrite}
 use Rattle.workers.specs.Counts.{count_of}
-use Rattle.unit_reading.proofs.HandedOn.{handed_on}
-use Rattle.driver.specs.Faults.{is_of_output, IsCheckFault}
-use Rattle.driver.specs.Editions.{edition_of_run}
-use Rattle.driver.specs.Printing.{AppendsFront}
+use Rattle.folders.proofs.HandedOn.{handed_on}
+use Rattle.inputs.specs.ReadingFaults.{is_of_output}
+use Rattle.driver.specs.Faults.{IsCheckFault}
+use Rattle.printed.specs.Printing.{AppendsFront}
 use Rattle.driver.proofs.FaultsOfCommands.{none_refused}
-use Rattle.driver.proofs.ToldSo.{told_so}
-use Rattle.driver.proofs.ReadGiven.{of_report, on_err, read_words}
+use Rattle.driver.proofs.GivenFaults.{of_read_sources, of_report}
+use Rattle.inputs.proofs.ReadGiven.{on_err, read_words}
 use Rattle.driver.proofs.check.check.Goals as goal
 
 pub returns-in_err-input-clause-fault : goal.returns-in_err-input-clause-fault
@@ -16,18 +16,19 @@ returns-in_err-input-clause-fault g c =
     let sources = c.args.asked.now.sources in
     let workers = count_of c.args.asked.now.workers in
     handed_on c.from_residual.result c.in_err-input.field-0.0 (IsCheckFault sources workers)
-    c.from_residual.ensures.1 (c.in_err-input.ensures.fault workers)
+    c.from_residual.ensures.1
+    (of_read_sources sources workers c.in_err-input.field-0.0 c.in_err-input.ensures.fault)
 
-pub returns-in_err-report-clause-fault : goal.returns-in_err-report-clause-fault
-returns-in_err-report-clause-fault g c =
+pub returns-in_err-told-clause-fault : goal.returns-in_err-told-clause-fault
+returns-in_err-told-clause-fault g c =
     let sources = c.args.asked.now.sources in
     let workers = count_of c.args.asked.now.workers in
     let input = c.in_ok-input.input in
-    let fault = c.in_err-report.field-0.0 in
-    handed_on c.from_residual-in_err-report.result fault (IsCheckFault sources workers)
-    c.from_residual-in_err-report.ensures.1
+    let fault = c.in_err-told.field-0.0 in
+    handed_on c.from_residual-in_err-told.result fault (IsCheckFault sources workers)
+    c.from_residual-in_err-told.ensures.1
     (of_report sources workers input.given.items input.files input.outside c.in_ok-input.ensures.read fault
-    c.in_err-report.ensures.fault)
+    c.in_err-told.ensures.fault)
 
 pub returns-in_err-print-clause-fault : goal.returns-in_err-print-clause-fault
 returns-in_err-print-clause-fault g c =
@@ -41,7 +42,7 @@ returns-in_err-print-clause-fault g c =
 pub returns-in_err-print-clause-begun : goal.returns-in_err-print-clause-begun
 returns-in_err-print-clause-begun g c =
     let input = c.in_ok-input.input in
-    let report = c.in_ok-report.report in
+    let report = c.in_ok-told.told.report in
     let old = g.W.Write.contents c.args.out.now in
     let new = g.W.Write.contents c.print.new.out in
     on_err c.from_residual-in_err-print.result
@@ -52,19 +53,17 @@ returns-in_err-print-clause-begun g c =
         outside = input.outside;
         are_read = c.in_ok-input.ensures.read;
         report = report;
-        telling = c.telling_of.result;
-        is_telling =
-            told_so c.edition_of_run.result (edition_of_run c.args.asked.now.sources) c.args.asked.now.report true _ _ _
-            c.edition_of_run.ensures c.deref.ensures.value c.telling_of.ensures;
-        is_report = c.in_ok-report.ensures.report;
-        so = subst (AppendsFront old new) c.deref-2.ensures.value c.in_err-print.ensures.begun;
+        telling = c.telling_for.result;
+        is_telling = c.telling_for.ensures;
+        is_report = c.in_ok-told.ensures.report;
+        so = subst (AppendsFront old new) c.deref.ensures.value c.in_err-print.ensures.begun;
       },
     ))
 
 pub returns-clause-written : goal.returns-clause-written
 returns-clause-written g c =
     let input = c.in_ok-input.input in
-    let report = c.in_ok-report.report in
+    let report = c.in_ok-told.told.report in
     let old = g.W.Write.contents c.args.out.now in
     let new = g.W.Write.contents c.print.new.out in (
       report.passes,
@@ -74,12 +73,10 @@ returns-clause-written g c =
         outside = input.outside;
         are_read = c.in_ok-input.ensures.read;
         report = report;
-        telling = c.telling_of.result;
-        is_telling =
-            told_so c.edition_of_run.result (edition_of_run c.args.asked.now.sources) c.args.asked.now.report true _ _ _
-            c.edition_of_run.ensures c.deref.ensures.value c.telling_of.ensures;
-        is_report = c.in_ok-report.ensures.report;
-        so = (refl, subst (Appends old new) c.deref-2.ensures.value c.in_ok-print.ensures.written);
+        telling = c.telling_for.result;
+        is_telling = c.telling_for.ensures;
+        is_report = c.in_ok-told.ensures.report;
+        so = (refl, subst (Appends old new) c.deref.ensures.value c.in_ok-print.ensures.written);
       },
     )
 

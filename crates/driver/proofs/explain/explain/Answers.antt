@@ -2,13 +2,13 @@ use Rattle.std.proofs.Common.{◌≡◌, false, true≢false, IsErrAnd, refl, ru
 use Rattle.std.specs.Io.KnownBytes.{Appends}
 use Rattle.folders.specs.declared.fault.Fault.TheVariants.{CannotWrite}
 use Rattle.workers.specs.Counts.{count_of}
-use Rattle.unit_reading.proofs.HandedOn.{handed_on}
-use Rattle.driver.specs.Faults.{is_of_output, IsCheckFault}
-use Rattle.driver.specs.Editions.{edition_of_run}
-use Rattle.driver.specs.Printing.{AppendsFront}
+use Rattle.folders.proofs.HandedOn.{handed_on}
+use Rattle.inputs.specs.ReadingFaults.{is_of_output}
+use Rattle.driver.specs.Faults.{IsCheckFault}
+use Rattle.printed.specs.Printing.{AppendsFront}
 use Rattle.driver.proofs.FaultsOfCommands.{none_refused}
-use Rattle.driver.proofs.ToldSo.{told_so}
-use Rattle.driver.proofs.ReadGiven.{of_report, on_err, read_words}
+use Rattle.driver.proofs.GivenFaults.{of_read_sources, of_report}
+use Rattle.inputs.proofs.ReadGiven.{on_err, read_words}
 use Rattle.driver.proofs.explain.explain.Goals as goal
 
 pub returns-in_err-input-clause-fault : goal.returns-in_err-input-clause-fault
@@ -16,7 +16,8 @@ returns-in_err-input-clause-fault g c =
     let sources = c.args.asked.now.sources in
     let workers = count_of c.args.asked.now.workers in
     handed_on c.from_residual.result c.in_err-input.field-0.0 (IsCheckFault sources workers)
-    c.from_residual.ensures.1 (c.in_err-input.ensures.fault workers)
+    c.from_residual.ensures.1
+    (of_read_sources sources workers c.in_err-input.field-0.0 c.in_err-input.ensures.fault)
 
 pub returns-in_err-told-clause-fault : goal.returns-in_err-told-clause-fault
 returns-in_err-told-clause-fault g c =
@@ -52,12 +53,10 @@ returns-in_err-print-clause-begun g c =
         outside = input.outside;
         are_read = c.in_ok-input.ensures.read;
         told = told;
-        telling = c.telling_of.result;
-        is_telling =
-            told_so c.edition_of_run.result (edition_of_run c.args.asked.now.sources) c.args.asked.now.report true _ _ _
-            c.edition_of_run.ensures c.deref.ensures.value c.telling_of.ensures;
+        telling = c.telling_for.result;
+        is_telling = c.telling_for.ensures;
         is_report = c.in_ok-told.ensures.report;
-        so = subst (AppendsFront old new) c.deref-2.ensures.value c.in_err-print.ensures.begun;
+        so = subst (AppendsFront old new) c.deref.ensures.value c.in_err-print.ensures.begun;
       },
     ))
 
@@ -74,12 +73,10 @@ returns-clause-written g c =
         outside = input.outside;
         are_read = c.in_ok-input.ensures.read;
         told = told;
-        telling = c.telling_of.result;
-        is_telling =
-            told_so c.edition_of_run.result (edition_of_run c.args.asked.now.sources) c.args.asked.now.report true _ _ _
-            c.edition_of_run.ensures c.deref.ensures.value c.telling_of.ensures;
+        telling = c.telling_for.result;
+        is_telling = c.telling_for.ensures;
         is_report = c.in_ok-told.ensures.report;
-        so = (refl, subst (Appends old new) c.deref-2.ensures.value c.in_ok-print.ensures.written);
+        so = (refl, subst (Appends old new) c.deref.ensures.value c.in_ok-print.ensures.written);
       },
     )
 

@@ -1,9 +1,8 @@
 use Rattle.std.proofs.Common.{inl, inr, map, subst}
 use Rattle.command_line.specs.Words.{IsAsked}
-use Rattle.folders.specs.WrittenFiles.{text_of}
-use Rattle.unit_reading.proofs.HandedOn.{handed_on}
+use Rattle.folders.proofs.HandedOn.{handed_on}
 use Rattle.driver.specs.Faults.{IsFaultOfCertify, IsFaultOfCheck, IsFaultOfVerify, IsRunFault}
-use Rattle.driver.specs.WrittenReport.{IsBegun, IsWritten, LeavesBegun, LeavesWhole, OfCertify, OfCheck, OfExplain, OfVerify}
+use Rattle.driver.specs.WrittenReport.{IsBegun, IsWritten, LeavesBegun, LeavesWhole, OfCertified, OfCertify, OfCheck, OfExplain, OfVerify}
 use Rattle.driver.proofs.AskedReports.{ends_so}
 use Rattle.driver.proofs.program.answer_words.Goals as goal
 
@@ -139,8 +138,16 @@ returns-in_ok-done-in-Certify-clause-written g c =
     let new = g.W.Write.contents c.certify.new.out in
     let done = c.in_ok-done-in-Certify.done in
     let written = c.in_ok-done-in-Certify.ensures.written in
-    let report : OfCertify words (IsWritten old new written.0)
-    = record { asked = asked; asks = asks; files = done.files; text = text_of done.file; report = written.2 } in
+    let report : OfCertified words (IsWritten old new written.0)
+    = record {
+      asked = asked;
+      asks = asks;
+      files = done.files;
+      file = done.file;
+      is_file = c.in_ok-done-in-Certify.ensures.file;
+      is_on_disk = c.in_ok-done-in-Certify.ensures.reach;
+      report = written.2;
+    } in
     ends_so words old new done.status written.0 written.1 (inr (inr (inl (report))))
 
 pub returns-in_err-done-in-Verify-clause-fault : goal.returns-in_err-done-in-Verify-clause-fault

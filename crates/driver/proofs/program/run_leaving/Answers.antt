@@ -1,5 +1,5 @@
 use Rattle.std.proofs.Common.{inr, refl}
-use Rattle.driver.specs.declared.status.Status.TheVariants.{Faulty}
+use Rattle.printed.specs.declared.status.Status.TheVariants.{Faulty}
 use Rattle.driver.proofs.program.run_leaving.Goals as goal
 
 pub returns-in-Err : goal.returns-in-Err

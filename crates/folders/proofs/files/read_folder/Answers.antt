@@ -1,7 +1,10 @@
-use Rattle.std.proofs.Common.{◌≡◌, ◌∷◌, ◌+◌, ◌∙◌, ap, sym, drop, rules, string_bytes, IfSome}
+use Rattle.std.proofs.Common.{◌≡◌, ◌∷◌, ◌+◌, ◌∙◌, ap, sym, drop, inl, rules, string_bytes, IfSome}
 use Rattle.std.proofs.lemmas.List.{drop_all, drop_more}
 use Rattle.folders.specs.Names.{IsPrintable}
-use Rattle.folders.specs.GoFiles.{IsGoName, source_name}
+use Rattle.folders.specs.GoFiles.{source_name, IsGoName, IsOfFolder}
+use Rattle.folders.specs.ReadFaults.{IsReadFaultOf}
+use Rattle.folders.proofs.HandedOn.{handed_on}
+use Rattle.folders.proofs.ReadFaults.{read_among}
 use Rattle.folders.proofs.GoFiles.{no_sources, sources_more, all_sources}
 use Rattle.folders.proofs.files.read_folder.Goals as goal
 
@@ -27,3 +30,10 @@ returns-clause-sources g c =
     let at = c.loop-name.name-index in
     all_sources c.args.folder.now c.loop-name.sources.items (drop at names) (drop_all at names c.loop-name-test.false)
     c.loop-name.invariant
+
+pub returns-in_err-names-clause-fault : goal.returns-in_err-names-clause-fault
+returns-in_err-names-clause-fault g c =
+    let folder = c.args.folder.now in
+    let fault = c.in_err-names.field-0.0 in
+    handed_on c.from_residual.result fault (IsReadFaultOf (IsOfFolder folder)) c.from_residual.ensures.1
+    (read_among (λ name. name ≡ folder) (IsOfFolder folder) fault (λ name is. inl is) c.in_err-names.ensures.fault)

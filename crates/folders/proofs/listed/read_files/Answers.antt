@@ -1,5 +1,9 @@
-use Rattle.std.proofs.Common.{◌≡◌, ◌∷◌, ◌+◌, ◌∙◌, ap, drop, rules, string_bytes, sym}
+use Rattle.std.proofs.Common.{◌≡◌, ◌∷◌, ◌+◌, ◌∙◌, ap, drop, map, rules, string_bytes, subst, sym, Contains}
 use Rattle.std.proofs.lemmas.List.{drop_all, drop_more}
+use Rattle.folders.specs.ReadFaults.{IsReadFaultOf}
+use Rattle.folders.proofs.HandedOn.{handed_on}
+use Rattle.folders.proofs.Members.{contains_map}
+use Rattle.folders.proofs.ReadFaults.{read_among}
 use Rattle.folders.proofs.ListedFiles.{all_files, no_files, one_more_file}
 use Rattle.folders.proofs.listed.read_files.Goals as goal
 
@@ -26,3 +30,20 @@ returns-clause-files g c =
     let at = c.loop-name.name-index in
     all_files c.args.names.items (drop at names) c.loop-name.sources.items (drop_all at names c.loop-name-test.false)
     c.loop-name.invariant
+
+pub returns-in_err-read_named-clause-fault : goal.returns-in_err-read_named-clause-fault
+returns-in_err-read_named-clause-fault g c =
+    let names = map string_bytes c.args.names.items in
+    let ordered = c.deref-name-items.result.now in
+    let item = c.name-item.result in
+    let fault = c.in_err-read_named.field-0.0 in
+    let same : ordered ≡ c.in_order-names.result.items = search rules in
+    let there : Contains c.in_order-names.result.items item
+    = subst (λ all. Contains all item) same (c.loop-name.name-index, c.loop-name-test.true, sym c.name-item.is) in
+    let among : Contains names (string_bytes item)
+    = (c.in_order-names.ensures.same (string_bytes item)).0 (contains_map string_bytes c.in_order-names.result.items item there) in
+    let named : string_bytes c.in_ok-name.name ≡ string_bytes item = c.in_ok-name.ensures.ok ∙ c.as_str.ensures.value in
+    handed_on c.from_residual-in_err-read_named.result fault (IsReadFaultOf (Contains names))
+    c.from_residual-in_err-read_named.ensures.1
+    (read_among (λ told. told ≡ string_bytes c.in_ok-name.name) (Contains names) fault
+    (λ told is. subst (Contains names) (sym (is ∙ named)) among) c.in_err-read_named.ensures.fault)

@@ -1,4 +1,5 @@
 use Rattle.judge.proofs.CertifiedReports.{is_certified}
+use Rattle.judge.proofs.NotGivenPaths.{not_given_of}
 use Rattle.judge.proofs.WorkersFaults.{is_of_workers}
 use Rattle.declared_json.specs.DeclaredPackages.{packages_of}
 use Rattle.workers.specs.Counts.{count_of}
@@ -8,6 +9,11 @@ pub returns-in-Ok-certified_loaded-clause-report : goal.returns-in-Ok-certified_
 returns-in-Ok-certified_loaded-clause-report g c =
     is_certified c.args.settings.telling (packages_of c.args.outside) c.args.given.items c.in-Ok.loaded c.in-Ok-certified_loaded.told
     c.in-Ok.ensures.loaded c.in-Ok-certified_loaded.ensures.certified
+
+pub returns-in-Ok-certified_loaded-clause-not_given : goal.returns-in-Ok-certified_loaded-clause-not_given
+returns-in-Ok-certified_loaded-clause-not_given g c =
+    not_given_of (packages_of c.args.outside) c.args.given.items c.in-Ok.loaded
+    c.in-Ok-certified_loaded.told.not_given.items c.in-Ok.ensures.loaded c.in-Ok-certified_loaded.ensures.not_given
 
 pub returns-in-Err-certified_loaded-clause-fault : goal.returns-in-Err-certified_loaded-clause-fault
 returns-in-Err-certified_loaded-clause-fault g c =

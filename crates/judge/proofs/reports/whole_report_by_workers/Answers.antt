@@ -4,5 +4,5 @@ pub returns-clause-report : goal.returns-clause-report
 returns-clause-report g c = record {
   said = c.in_ok-judged.judged.items;
   are_reports = c.in_ok-judged.ensures.reports;
-  told = c.in_ok-told.ensures;
+  told = c.in_ok-report.ensures;
 }

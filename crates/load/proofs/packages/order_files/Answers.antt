@@ -11,9 +11,15 @@ loop-path-init c =
 pub loop-path-preserved : goal.loop-path-preserved
 loop-path-preserved c =
     zips_next IsByName c.args.packages.entries c.next.new.self c.loop-path.path-iterator
-    (c.in-Some.path, (c.in-Some.edition, c.in-Some.sources)) c.loop-path.ordered.items c.push.new.self.items
-    (record { path = c.in-Some.path; edition = c.in-Some.edition; sources = c.in_ok-sources.sources })
-    c.in-Some.ensures.steps (record { is_path = refl; is_edition = refl; by_name = c.in_ok-sources.ensures }) c.in_ok-push.ensures.items
+    (c.in-Some.path, c.in-Some.files) c.loop-path.ordered.items c.push.new.self.items
+    (record {
+      path = c.in-Some.path;
+      edition = c.in-Some.files.edition;
+      sources = c.in_ok-sources.sources;
+      imports = c.in-Some.files.imports;
+    })
+    c.in-Some.ensures.steps
+    (record { is_path = refl; is_edition = refl; are_imports = refl; by_name = c.in_ok-sources.ensures }) c.in_ok-push.ensures.items
     c.loop-path.invariant
 
 pub returns : goal.returns

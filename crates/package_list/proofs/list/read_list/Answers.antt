@@ -1,6 +1,7 @@
-use Rattle.std.proofs.Common.{◌≡◌, Some, map, option_map, sym, ap, ◌∙◌, rules}
+use Rattle.std.proofs.Common.{◌≡◌, [], Some, map, option_map, sym, ap, subst, ◌∙◌, rules}
+use Rattle.std.proofs.lemmas.List.{nil_from_length}
 use Rattle.package_list.specs.ListedValues.{package_of}
-use Rattle.package_list.specs.ListTexts.{first_incomplete}
+use Rattle.package_list.specs.ListTexts.{first_incomplete, AreListedIn}
 use Rattle.package_list.proofs.PiecesRead.{listed, not_listed}
 use Rattle.package_list.proofs.list.read_list.Goals as goal
 
@@ -8,6 +9,12 @@ pub returns-in_default-clause-fault : goal.returns-in_default-clause-fault
 returns-in_default-clause-fault c =
     not_listed c.args.bytes.now _ c.in_ok-packages.ensures.ok
     (ap (option_map (λ list. map package_of list.items)) c.in_default.is)
+
+pub returns-then-is_empty-clause-fault : goal.returns-then-is_empty-clause-fault
+returns-then-is_empty-clause-fault c =
+    let none : c.in-Some.packages.items ≡ [] = nil_from_length c.in-Some.packages.items (search rules) in
+    subst (AreListedIn c.args.bytes.now) (ap (map package_of) none)
+    (listed c.args.bytes.now _ _ c.in_ok-packages.ensures.ok (ap (option_map (λ list. map package_of list.items)) c.in-Some.is))
 
 pub returns-in_ok-from_str-in-Some-first_incomplete-clause-fault :
     goal.returns-in_ok-from_str-in-Some-first_incomplete-clause-fault

@@ -1,5 +1,5 @@
 use Rattle.report_formats.proofs.JsonPieces.{ends_first, ends_second}
-use Rattle.report_formats.proofs.Steps.{written_as}
+use Rattle.format_parts.proofs.Steps.{written_as}
 use Rattle.report_formats.proofs.json_report.close_report.Goals as goal
 
 pub returns-in-First-clause-taken : goal.returns-in-First-clause-taken

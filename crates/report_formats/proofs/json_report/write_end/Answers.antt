@@ -1,5 +1,5 @@
 use Rattle.report_formats.proofs.JsonPieces.{end_is, no_end}
-use Rattle.report_formats.proofs.Steps.{nothing_put, written_as}
+use Rattle.format_parts.proofs.Steps.{nothing_put, written_as}
 use Rattle.report_formats.proofs.json_report.write_end.Goals as goal
 
 pub returns-in_default-clause-taken : goal.returns-in_default-clause-taken

@@ -1,5 +1,5 @@
 use Rattle.report_formats.proofs.JsonPieces.{kind_is, no_kind}
-use Rattle.report_formats.proofs.Steps.{nothing_put, written_as}
+use Rattle.format_parts.proofs.Steps.{nothing_put, written_as}
 use Rattle.report_formats.proofs.json_report.write_kind.Goals as goal
 
 pub returns-in-First-clause-taken : goal.returns-in-First-clause-taken

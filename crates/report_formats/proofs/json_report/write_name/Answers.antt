@@ -1,5 +1,5 @@
 use Rattle.report_formats.proofs.JsonPieces.{name_is}
-use Rattle.report_formats.proofs.Steps.{written_as}
+use Rattle.format_parts.proofs.Steps.{written_as}
 use Rattle.report_formats.proofs.json_report.write_name.Goals as goal
 
 pub returns-clause-taken : goal.returns-clause-taken

@@ -1,8 +1,8 @@
 use Rattle.std.proofs.Common.{refl, ◌∙◌}
 use Rattle.std.proofs.lemmas.Result.{err_from_is_err_and}
 use Rattle.report_formats.proofs.JsonPieces.{name_value, names_are}
-use Rattle.report_formats.proofs.Steps.{begins_as, goes_on, ends, stops}
-use Rattle.report_formats.proofs.Values.{next_listed, none_listed}
+use Rattle.format_parts.proofs.Steps.{begins_as, goes_on, ends, stops}
+use Rattle.format_parts.proofs.Values.{next_listed, none_listed}
 use Rattle.report_formats.proofs.json_report.write_names.Goals as goal
 
 pub loop-name-init : goal.loop-name-init

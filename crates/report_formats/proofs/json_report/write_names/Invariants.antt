@@ -1,9 +1,9 @@
 use Rattle.std.proofs.Common.{◌≡◌, false, map, drop}
 use Rattle.report.specs.Entries.{texts_of}
 use Rattle.serde_json.specs.Data.{string}
-use Rattle.report_formats.specs.Pieces.{listed}
+use Rattle.format_parts.specs.Pieces.{listed}
 use Rattle.report_formats.proofs.JsonPieces.{name_value}
-use Rattle.report_formats.proofs.Steps.{Goes}
+use Rattle.format_parts.proofs.Steps.{Goes}
 use Rattle.report_formats.proofs.json_report.write_names.Given as goal
 
 abbrev pub invariant-loop-name : goal.invariant-loop-name

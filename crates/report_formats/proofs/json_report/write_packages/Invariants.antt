@@ -1,10 +1,11 @@
 use Rattle.std.proofs.Common.{◌≡◌, false, map, drop}
-use Rattle.report_formats.specs.Pieces.{listed}
-use Rattle.report_formats.proofs.JsonPieces.{package_data}
-use Rattle.report_formats.proofs.Steps.{Goes}
+use Rattle.accepting.specs.Findings.{found_view}
+use Rattle.format_parts.specs.Pieces.{listed}
+use Rattle.report_formats.specs.JsonText.{package_values}
+use Rattle.format_parts.proofs.Steps.{Goes}
 use Rattle.report_formats.proofs.json_report.write_packages.Given as goal
 
 abbrev pub invariant-loop-package : goal.invariant-loop-package
 invariant-loop-package g l =
-    Goes (listed false (map (package_data l.style) l.packages)) (g.S.Sink.taken l.initial.sink) (g.S.Sink.taken l.sink) (listed l.is_later (map (package_data l.style) (drop l.package-index l.packages)))
+    Goes (listed false (package_values l.style l.fixes 0 (map found_view l.packages))) (g.S.Sink.taken l.initial.sink) (g.S.Sink.taken l.sink) (listed l.is_later (package_values l.style l.fixes l.count (map found_view (drop l.package-index l.packages))))
     × (g.S.Sink.refusals l.sink ≡ g.S.Sink.refusals l.initial.sink)

@@ -1,9 +1,9 @@
 use Rattle.std.proofs.Common.{true, ap}
 use Rattle.report.specs.Entries.{texts_of}
 use Rattle.report_formats.specs.JsonText.{verdict_members}
-use Rattle.report_formats.specs.Pieces.{members_listed}
+use Rattle.format_parts.specs.Pieces.{members_listed}
 use Rattle.report_formats.proofs.JsonPieces.{accepted_is, no_is}
-use Rattle.report_formats.proofs.Steps.{written_as}
+use Rattle.format_parts.proofs.Steps.{written_as}
 use Rattle.report_formats.proofs.json_report.write_verdict.Goals as goal
 
 pub returns-in-Yes-clause-taken : goal.returns-in-Yes-clause-taken

@@ -1,7 +1,7 @@
 use Rattle.std.proofs.Common.{refl}
 use Rattle.std.proofs.lemmas.Result.{err_from_is_err_and}
 use Rattle.report_formats.proofs.JsonPieces.{why_is, no_why}
-use Rattle.report_formats.proofs.Steps.{flag_is, flag_not, nothing_put, begins, goes_on, stops, last_call}
+use Rattle.format_parts.proofs.Steps.{flag_is, flag_not, nothing_put, begins, goes_on, stops, last_call}
 use Rattle.report_formats.proofs.json_report.write_why.Goals as goal
 
 pub returns-then-not-style-clause-taken : goal.returns-then-not-style-clause-taken

@@ -2,7 +2,7 @@ use Rattle.std.proofs.Common.{refl}
 use Rattle.std.proofs.lemmas.Result.{err_from_is_err_and}
 use Rattle.report.specs.Entries.{texts_of}
 use Rattle.report_formats.proofs.JsonPieces.{yes_is}
-use Rattle.report_formats.proofs.Steps.{begins, goes_on, stops, last_call}
+use Rattle.format_parts.proofs.Steps.{begins, goes_on, stops, last_call}
 use Rattle.report_formats.proofs.json_report.write_yes.Goals as goal
 
 pub returns-in_err-put_all-clause-taken : goal.returns-in_err-put_all-clause-taken

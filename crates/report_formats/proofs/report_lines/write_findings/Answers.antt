@@ -3,7 +3,7 @@ use Rattle.std.proofs.lemmas.List.{drop_all}
 use Rattle.std.proofs.lemmas.Result.{err_from_is_err_and}
 use Rattle.accepting.specs.Findings.{finding_view}
 use Rattle.report_formats.specs.ReportLines.{told_lines}
-use Rattle.report_formats.proofs.Steps.{begins, goes_on, ends, stops}
+use Rattle.format_parts.proofs.Steps.{begins, goes_on, ends, stops}
 use Rattle.report_formats.proofs.TextParts.{next_part}
 use Rattle.report_formats.proofs.report_lines.write_findings.Goals as goal
 

@@ -2,7 +2,7 @@ use Rattle.std.proofs.Common.{◌≡◌, flat_map, drop}
 use Rattle.accepting.specs.Findings.{finding_view}
 use Rattle.report.specs.Cursors.{IsAt}
 use Rattle.report_formats.specs.ReportLines.{told_lines}
-use Rattle.report_formats.proofs.Steps.{Goes}
+use Rattle.format_parts.proofs.Steps.{Goes}
 use Rattle.report_formats.proofs.report_lines.write_findings.Given as goal
 
 abbrev pub invariant-loop-finding : goal.invariant-loop-finding

@@ -1,7 +1,7 @@
 use Rattle.std.proofs.Common.{ap, map, refl, ◌∙◌}
 use Rattle.std.proofs.lemmas.Result.{err_from_is_err_and}
 use Rattle.accepting.specs.Findings.{finding_view, verdict_of}
-use Rattle.report_formats.proofs.Steps.{begins, goes_on, stops, last_call}
+use Rattle.format_parts.proofs.Steps.{begins, goes_on, stops, last_call}
 use Rattle.report_formats.proofs.TextParts.{package_parts}
 use Rattle.report_formats.proofs.report_lines.write_package.Goals as goal
 

@@ -3,8 +3,8 @@ use Rattle.std.proofs.lemmas.Result.{err_from_is_err_and}
 use Rattle.accepting.specs.Findings.{accepted_view}
 use Rattle.accepting.specs.declared.findings.Acceptance.{Acceptance}
 use Rattle.report_formats.specs.ReportLines.{reason_shown}
-use Rattle.report_formats.specs.Told.{reason_text}
-use Rattle.report_formats.proofs.Steps.{begins, goes_on, stops, last_call}
+use Rattle.format_parts.specs.Told.{reason_text}
+use Rattle.format_parts.proofs.Steps.{begins, goes_on, stops, last_call}
 use Rattle.report_formats.proofs.report_lines.write_reason.Goals as goal
 
 reason_parts : (acceptance : Option Acceptance) (by : Acceptance) (text : List ℕ) → acceptance ≡ Some by

@@ -3,7 +3,7 @@ use Rattle.std.proofs.lemmas.Result.{err_from_is_err_and}
 use Rattle.accepting.specs.declared.findings.Verdict.TheVariants.{Yes}
 use Rattle.report.specs.Entries.{texts_of}
 use Rattle.report_formats.specs.ReportLines.{keeping_line, last_lines, verdict_line}
-use Rattle.report_formats.proofs.Steps.{begins, goes_on, stops, last_call}
+use Rattle.format_parts.proofs.Steps.{begins, goes_on, stops, last_call}
 use Rattle.report_formats.proofs.report_lines.write_yes.Goals as goal
 
 yes_parts : (is_quiet : Bool) (path : List ℕ) (keeping : List (List ℕ)) → is_quiet ≡ false

@@ -1,6 +1,6 @@
 use Rattle.std.proofs.Common.{◌<◌, ◌^◌, rules, slice_get}
 use Rattle.report.specs.Entries.{entry_of}
-use Rattle.report_formats.proofs.Steps.{written_as}
+use Rattle.format_parts.proofs.Steps.{written_as}
 use Rattle.report_formats.proofs.UnitFindings.{found_is}
 use Rattle.report_formats.proofs.unit_json.open_finding.Goals as goal
 

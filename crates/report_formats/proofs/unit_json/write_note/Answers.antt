@@ -1,5 +1,5 @@
 use Rattle.std.proofs.Common.{◌<◌, ◌^◌, rules}
-use Rattle.report_formats.proofs.Steps.{written_as}
+use Rattle.format_parts.proofs.Steps.{written_as}
 use Rattle.report_formats.proofs.UnitFindings.{note_is}
 use Rattle.report_formats.proofs.unit_json.write_note.Goals as goal
 

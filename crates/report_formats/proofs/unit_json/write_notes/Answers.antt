@@ -1,8 +1,8 @@
 use Rattle.std.proofs.Common.{refl, ◌∙◌}
 use Rattle.std.proofs.lemmas.Result.{err_from_is_err_and}
 use Rattle.report_formats.specs.UnitJson.{related_value}
-use Rattle.report_formats.proofs.Steps.{begins, goes_on, ends, stops}
-use Rattle.report_formats.proofs.Values.{next_item, none_listed}
+use Rattle.format_parts.proofs.Steps.{begins, goes_on, ends, stops}
+use Rattle.format_parts.proofs.Values.{next_item, none_listed}
 use Rattle.report_formats.proofs.unit_json.write_notes.Goals as goal
 
 pub loop-note-init : goal.loop-note-init

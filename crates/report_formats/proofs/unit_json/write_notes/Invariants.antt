@@ -1,7 +1,7 @@
 use Rattle.std.proofs.Common.{◌≡◌, false, map, drop}
-use Rattle.report_formats.specs.Pieces.{listed}
+use Rattle.format_parts.specs.Pieces.{listed}
 use Rattle.report_formats.specs.UnitJson.{related_value}
-use Rattle.report_formats.proofs.Steps.{Goes}
+use Rattle.format_parts.proofs.Steps.{Goes}
 use Rattle.report_formats.proofs.unit_json.write_notes.Given as goal
 
 abbrev pub invariant-loop-note : goal.invariant-loop-note

@@ -2,7 +2,7 @@ use Rattle.std.proofs.Common.{option_map, refl, ap}
 use Rattle.std.proofs.lemmas.Result.{err_from_is_err_and}
 use Rattle.accepting.specs.Findings.{accepted_view}
 use Rattle.report_formats.proofs.UnitFindings.{reason_is, no_reason}
-use Rattle.report_formats.proofs.Steps.{nothing_put, begins, goes_on, stops, last_call}
+use Rattle.format_parts.proofs.Steps.{nothing_put, begins, goes_on, stops, last_call}
 use Rattle.report_formats.proofs.unit_json.write_reason.Goals as goal
 
 pub returns-in_default-clause-taken : goal.returns-in_default-clause-taken

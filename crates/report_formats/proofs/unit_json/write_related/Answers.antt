@@ -1,7 +1,7 @@
 use Rattle.std.proofs.Common.{refl}
 use Rattle.std.proofs.lemmas.Result.{err_from_is_err_and}
 use Rattle.report_formats.proofs.UnitFindings.{related_is, none_related}
-use Rattle.report_formats.proofs.Steps.{flag_is, flag_not, nothing_put, begins, goes_on, stops, last_call}
+use Rattle.format_parts.proofs.Steps.{flag_is, flag_not, nothing_put, begins, goes_on, stops, last_call}
 use Rattle.report_formats.proofs.unit_json.write_related.Goals as goal
 
 pub returns-then-not-style-clause-taken : goal.returns-then-not-style-clause-taken

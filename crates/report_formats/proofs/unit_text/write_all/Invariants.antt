@@ -2,7 +2,7 @@ use Rattle.std.proofs.Common.{◌≡◌, flat_map, drop}
 use Rattle.accepting.specs.Findings.{finding_view}
 use Rattle.report.specs.Cursors.{IsAt}
 use Rattle.report_formats.specs.UnitText.{unit_told}
-use Rattle.report_formats.proofs.Steps.{Goes}
+use Rattle.format_parts.proofs.Steps.{Goes}
 use Rattle.report_formats.proofs.unit_text.write_all.Given as goal
 
 abbrev pub invariant-loop-finding : goal.invariant-loop-finding

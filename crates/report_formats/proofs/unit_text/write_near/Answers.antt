@@ -4,7 +4,7 @@ use Rattle.std.proofs.lemmas.Result.{err_from_is_err_and}
 use Rattle.memchr.specs.Find.{is_byte, IsFirstByte}
 use Rattle.report_formats.specs.UnitText.{is_near}
 use Rattle.report_formats.proofs.ShownLines.{last_shown, next_shown}
-use Rattle.report_formats.proofs.Steps.{begins, goes_on, stops, last_call, written_as}
+use Rattle.format_parts.proofs.Steps.{begins, goes_on, stops, last_call, written_as}
 use Rattle.report_formats.proofs.unit_text.write_near.Goals as goal
 
 pub lines-init : goal.lines-init

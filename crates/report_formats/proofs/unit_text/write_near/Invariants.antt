@@ -1,6 +1,6 @@
 use Rattle.std.proofs.Common.{◌≡◌, ◌≤◌, ◌+◌, length}
 use Rattle.report_formats.specs.UnitText.{is_near, lines_of, shown_from}
-use Rattle.report_formats.proofs.Steps.{Goes}
+use Rattle.format_parts.proofs.Steps.{Goes}
 use Rattle.report_formats.proofs.unit_text.write_near.Given as goal
 
 -- the lines that are left are counted from this number on

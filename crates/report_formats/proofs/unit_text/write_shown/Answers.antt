@@ -1,7 +1,7 @@
 use Rattle.std.proofs.Common.{◌++◌, codes, decimal, refl, sym}
 use Rattle.std.proofs.lemmas.List.{append_assoc}
 use Rattle.std.proofs.lemmas.Result.{err_from_is_err_and}
-use Rattle.report_formats.proofs.Steps.{begins, goes_on, stops, last_call}
+use Rattle.format_parts.proofs.Steps.{begins, goes_on, stops, last_call}
 use Rattle.report_formats.proofs.unit_text.write_shown.Goals as goal
 
 pub returns-in_err-put_pieces-clause-taken : goal.returns-in_err-put_pieces-clause-taken

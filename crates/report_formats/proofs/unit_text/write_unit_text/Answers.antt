@@ -1,4 +1,4 @@
-use Rattle.report_formats.proofs.Steps.{written_as}
+use Rattle.format_parts.proofs.Steps.{written_as}
 use Rattle.report_formats.proofs.TextParts.{unit_parts}
 use Rattle.report_formats.proofs.unit_text.write_unit_text.Goals as goal
 

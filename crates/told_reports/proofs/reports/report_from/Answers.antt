@@ -1,7 +1,7 @@
 use Rattle.std.proofs.Common.{◌≡◌, false, ap, map, subst, ◌∙◌}
 use Rattle.std.specs.List.{list_all}
 use Rattle.accepting.specs.Findings.{found_view, plain_package}
-use Rattle.accepting.specs.Found.{found_in}
+use Rattle.accepting.specs.Found.{told_in}
 use Rattle.report_formats.specs.Formats.{text_of}
 use Rattle.told_reports.specs.Reports.{gone_in, package_passes, AreCounted}
 use Rattle.told_reports.proofs.Passes.{all_viewed}
@@ -9,9 +9,9 @@ use Rattle.told_reports.proofs.reports.report_from.Goals as goal
 
 pub returns : goal.returns
 returns c =
-    let told = found_in c.args.telling (map plain_package c.args.reports.now) in
+    let told = told_in c.args.telling (map plain_package c.args.reports.now) in
     let found : map found_view c.in_ok-told.told.items ≡ told =
-    c.in_ok-told.ensures ∙ ap (found_in c.args.telling) c.in_ok-plain.ensures in
+    c.in_ok-told.ensures ∙ ap (told_in c.args.telling) c.in_ok-plain.ensures in
     let written : map found_view c.deref.result.now ≡ told = ap (map found_view) c.deref.ensures.value ∙ found in
     let compared : map found_view c.deref-2.result.now ≡ told = ap (map found_view) c.deref-2.ensures.value ∙ found in
     let passing : map found_view c.deref-3.result.now ≡ told = ap (map found_view) c.deref-3.ensures.value ∙ found in

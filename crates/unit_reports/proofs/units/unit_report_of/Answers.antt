@@ -43,6 +43,12 @@ returns-in_err-name-clause-fault c =
     handed_on c.from_residual-in_err-name.result OutOfMemory
     (IsUnitFault (packages_of c.args.outside.now) c.args.told.now c.args.loaded.now) told tt
 
+pub returns-in_err-keeping-clause-fault : goal.returns-in_err-keeping-clause-fault
+returns-in_err-keeping-clause-fault c =
+    let told : IsErrAnd c.from_residual-in_err-keeping.result (λ fault. fault ≡ OutOfMemory) = search rules in
+    handed_on c.from_residual-in_err-keeping.result OutOfMemory
+    (IsUnitFault (packages_of c.args.outside.now) c.args.told.now c.args.loaded.now) told tt
+
 pub returns-in_err-functions-clause-fault : goal.returns-in_err-functions-clause-fault
 returns-in_err-functions-clause-fault c =
     let outside = packages_of c.args.outside.now in

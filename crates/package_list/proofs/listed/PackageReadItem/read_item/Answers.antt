@@ -1,7 +1,7 @@
 use Rattle.std.proofs.Common.{map, option_map, string_bytes, ◌∙◌}
 use Rattle.serde_json.specs.Data.{object}
 use Rattle.json_reading.proofs.ObjectsRead.{object_read, no_object_read}
-use Rattle.package_list.specs.ListedValues.{package_in, package_of}
+use Rattle.package_list.specs.ListedValues.{import_of, package_in, package_of}
 use Rattle.package_list.proofs.MembersRead.{no_package, package_found}
 use Rattle.package_list.proofs.StringsRead.{judged}
 use Rattle.package_list.proofs.listed.PackageReadItem.read_item.Goals as goal
@@ -28,5 +28,6 @@ returns-clause-ok c =
           (option_map (λ list. map string_bytes list.items) c.in_ok-files.files)
           (option_map (λ list. map string_bytes list.items) members.go_files)
           (option_map (λ list. map string_bytes list.items) members.cgo_files)
-          (option_map (option_map string_bytes) members.module_path) members.incomplete c.in_ok-files.ensures read.2);
+          (option_map (option_map string_bytes) members.module_path) members.incomplete members.dep_only
+          (option_map (λ list. map import_of list.items) members.imports) c.in_ok-files.ensures read.2);
     }

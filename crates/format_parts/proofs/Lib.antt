@@ -1,0 +1,5 @@
+pub mod Steps
+pub mod Spelled
+pub mod NoteParts
+pub mod Values
+pub mod FixParts

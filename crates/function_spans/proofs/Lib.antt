@@ -1,0 +1,3 @@
+mod BodySizes
+mod Heads
+mod Opens

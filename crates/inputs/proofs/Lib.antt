@@ -1,0 +1,4 @@
+pub mod FaultsRead
+mod ListedPackages
+pub mod ReadGiven
+mod ToldSo

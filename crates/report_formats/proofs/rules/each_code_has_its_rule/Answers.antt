@@ -1,5 +1,0 @@
-use Rattle.report_formats.proofs.CodeRules.{its_rule}
-use Rattle.report_formats.proofs.rules.each_code_has_its_rule.Goals as goal
-
-pub returns : goal.returns
-returns c = its_rule

@@ -1,8 +1,0 @@
-use Rattle.report_formats.proofs.SarifPieces.{help_is}
-use Rattle.report_formats.proofs.Steps.{written_as}
-use Rattle.report_formats.proofs.sarif_rules.write_help.Goals as goal
-
-pub returns-clause-taken : goal.returns-clause-taken
-returns-clause-taken g c =
-    let parts = help_is c.args.code _ _ _ _ _ c.meaning.ensures c.help_text.ensures c.help_markdown.ensures c.level.ensures c.topic.ensures in
-    written_as _ _ _ _ parts _ c.put_each.ensures.taken

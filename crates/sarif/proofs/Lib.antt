@@ -1,0 +1,3 @@
+pub mod SarifPieces
+pub mod FixPieces
+pub mod CodeRules

@@ -1,0 +1,2 @@
+-- For a reader of the contracts: which edits lie within a text.
+pub mod Edits

@@ -1,0 +1,6 @@
+mod UnitFaults
+mod TakenImports
+mod CallFaults
+mod OtherFacts
+mod RanUnits
+mod ForUnits

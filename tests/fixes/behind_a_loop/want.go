@@ -1,0 +1,16 @@
+// A loop has ended before the statement.
+package a
+
+import "context"
+
+func f(p context.Context) {
+	for i := 0; i < 3; i++ {
+		use(p)
+	}
+	ctx, cancel := context.WithCancel(p)
+	defer cancel()
+	_ = cancel
+	use(ctx)
+}
+
+func use(ctx context.Context) {}

@@ -1,0 +1,12 @@
+// A cancel function that takes a cause is called with nil.
+package a
+
+import "context"
+
+func f(p context.Context) {
+	ctx, fail := context.WithCancelCause(p)
+	_ = fail
+	use(ctx)
+}
+
+func use(ctx context.Context) {}

@@ -1,0 +1,17 @@
+// A function of the same file gives the cancel function.
+package a
+
+import "context"
+
+func f(p context.Context) {
+	ctx, stop := start(p)
+	defer stop()
+	_ = stop
+	use(ctx)
+}
+
+func start(p context.Context) (context.Context, context.CancelFunc) {
+	return context.WithCancel(p)
+}
+
+func use(ctx context.Context) {}

@@ -1,0 +1,14 @@
+// The statement stands in a block of its own.
+package a
+
+import "context"
+
+func f(p context.Context, wide bool) {
+	if wide {
+		ctx, cancel := context.WithCancel(p)
+		_ = cancel
+		use(ctx)
+	}
+}
+
+func use(ctx context.Context) {}

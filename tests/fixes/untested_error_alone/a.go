@@ -1,0 +1,24 @@
+// Nothing tests the error before the cancel function is read.
+package a
+
+import "context"
+
+func f(p context.Context) error {
+	ctx, stop, err := open(p, nil)
+	_ = stop
+	if err != nil {
+		return err
+	}
+	use(ctx)
+	return nil
+}
+
+func open(p context.Context, fail error) (context.Context, context.CancelFunc, error) {
+	if fail != nil {
+		return nil, nil, fail
+	}
+	ctx, cancel := context.WithCancel(p)
+	return ctx, cancel, nil
+}
+
+func use(ctx context.Context) {}

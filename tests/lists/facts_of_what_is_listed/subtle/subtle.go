@@ -1,0 +1,6 @@
+package subtle
+
+import "context"
+
+func WithDataIndependentTiming(stop context.CancelFunc) {
+}

@@ -1,0 +1,7 @@
+package a
+
+import "x/b"
+
+func f() {
+	b.F()
+}

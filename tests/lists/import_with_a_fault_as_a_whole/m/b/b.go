@@ -1,0 +1,6 @@
+package b
+
+var x = = 1
+
+func F() {
+}

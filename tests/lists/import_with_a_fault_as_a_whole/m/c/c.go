@@ -1,0 +1,3 @@
+package c
+
+import _ "x/b"

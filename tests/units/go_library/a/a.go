@@ -1,0 +1,10 @@
+package a
+
+import (
+	"context"
+	"os/signal"
+)
+
+func F(p context.Context) {
+	_, c := signal.NotifyContext(p)
+}
