@@ -64,13 +64,13 @@ def short(text, most=LONGEST):
 class Note:
     """A note of the report. `says` is its text with what the source has there, `brief` is for where that is seen."""
 
-    def __init__(self, told, name, root, seen):
+    def __init__(self, told, name, root, seen, by):
         self.file, self.line, self.text = told["file"], told["line"], told["text"]
         source = self.source = Source.of(self.file, root)
         place = told["line"], told["column"]
         self.token, self.column = source.token(*place), source.column(*place)
         self.end = end_of(source, self.line, self.column, self.token)
-        self.kind = KINDS.get(self.text, "note")
+        self.kind, self.by = KINDS.get(self.text, "note"), by
         key = (self.line, self.column, self.kind)
         self.says = self.brief = self.sentence(name, " again" if key in seen else "")
         seen.add(key)
@@ -93,6 +93,8 @@ class Note:
         return fixed.get(self.kind) or self.branch(again)
 
     def giver(self):
+        if self.by:
+            return f" from `{short(self.by, 40)}`"
         source, last = self.source, self.source.end(self.token)
         equals = next((k for k in range(self.token, last) if source.tokens[k].text in ("=", ":=")), last)
         bracket = next((k for k in range(equals, last) if source.tokens[k].text == "("), last)
@@ -136,24 +138,31 @@ class Finding:
         self.token, self.column = source.token(self.line, self.byte_column), source.column(self.line, self.byte_column)
         self.end = end_of(source, self.line, self.column, self.token)
         seen = set()
-        notes = [Note(one, self.name, root, seen) for one in told.get("why", [])]
+        by = told.get("cause", {}).get("by")
+        notes = [Note(one, self.name, root, seen, by) for one in told.get("why", [])]
         self.steps = [one for one in notes if one.kind != "note"]
         self.notes = [one for one in notes if one.kind == "note"]
         # A backquote would end the name, and begin another one.
         name, text = (told.replace("`", "'") for told in (self.name, self.text))
         self.says = SENTENCES.get(self.code, "{text}").format(n=name, text=text)
         self.here = HERE.get(self.code, "").format(n=name)
-        self.runs, self.step_runs = self.way()
+        self.runs, self.step_runs = self.way(told.get("lines", []))
         self.stand()
         if self.code == "LC03":
             self.mark_blank()
 
-    def way(self):
+    def way(self, lines):
         steps = [{"token": one.token, "kind": one.kind, "run": 0} for one in self.steps]
         if not steps or self.token is None or any(step["token"] is None for step in steps):
             return [], [0] * len(steps)
-        runs = Walk(self.source, steps, self.token).lines()
+        runs = Walk(self.source, steps, self.token).lines() or self.told_run(lines)
         return runs, [step["run"] if runs else 0 for step in steps]
+
+    def told_run(self, lines):
+        """The lines that the report tells, as one run, where the way only goes down."""
+        run = [line for line in lines if line >= self.steps[0].line]
+        places = [step.line for step in self.steps] + [self.line]
+        return [run] if run and places == sorted(places) and run[-1] == self.line else []
 
     def stand(self):
         """The function that it stands in, and the lines of that."""

@@ -1,7 +1,7 @@
 """The lines that a way executes, between the steps that a report tells of.
 
-The report tells where a way could have gone another way. What lies between, this finds by going through the source from
-step to step. Where it doesn't come to the next step there is no way, and the steps alone are shown."""
+The report tells where a way could have gone another way, and its lines, but not their order. This finds it by going
+through the source from step to step. Where it doesn't come to the next step there is no way, and the steps alone are shown."""
 
 # The kinds of steps that go into a block.
 INTO = ("true", "on", "case")

@@ -1,7 +1,6 @@
 -- Laws for other crates: without directives nothing changes.
 pub mod KeptLines
 pub mod NoDirectives
-mod BodySizes
 mod LineLists
 mod GoneFindings
 mod KeyCounts

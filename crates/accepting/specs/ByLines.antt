@@ -16,7 +16,7 @@ use Rattle.report.specs.ReportText.{bytes_of}
 use Rattle.report.specs.declared.codes.DiagnosticCode.{DiagnosticCode}
 use Rattle.report.specs.declared.codes.DiagnosticCode.TheVariants.{Unreadable, LeftOut, Discarded, Overwritten, NotCalled, CancelMisused, GroupIsLive, GroupOverwritten, GroupMisused, LeftToLiveGroup, BoundAgain, TooMany, ImportIsNotYes, ImportHasNoRank, TwoFunctions, NoCertificate, AcceptsNothing}
 use Rattle.report.specs.declared.codes.TreeFault.TheVariants.{UnexpectedToken, TooDeep}
-use Rattle.accepting.specs.Bodies.{body_end}
+use Rattle.function_spans.specs.Bodies.{body_end}
 use Rattle.accepting.specs.Findings.{AcceptedBy, FindingEntry, FoundEntry, line}
 use Rattle.accepting.specs.Merged.{merged}
 
@@ -182,6 +182,7 @@ stale_finding d = record {
     name = codes "-";
   };
   notes = [];
+  way = [];
   accepted = None;
 }
 

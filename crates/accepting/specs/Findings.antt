@@ -1,4 +1,5 @@
--- Findings as a report tells them: what each says, its notes, and by what it is accepted, if it is.
+-- Findings as a report tells them: what each says, its notes, the offsets of the way of which they tell, if they tell
+-- of one, and by what it is accepted, if it is.
 use Rattle.std.specs.Prelude.{ℕ, Bool, true, false, List, [], ◌∷◌, Option, None, map, option_map, is_some}
 use Rattle.std.specs.List.{list_all}
 use Rattle.lexer.specs.declared.source.Source.{Source}
@@ -23,6 +24,7 @@ pub data AcceptedBy : Type 0 where
 pub record FindingEntry : Type 0 where
   pub said : Entry
   pub notes : List Note
+  pub way : List ℕ
   pub accepted : Option AcceptedBy
 
 -- a package: its import path, its sources, the fields in which it keeps cancel functions, and its findings
@@ -34,7 +36,7 @@ pub record FoundEntry : Type 0 where
 
 -- what a report says, where nothing is accepted, without notes
 abbrev pub plain_finding : Diagnostic → FindingEntry
-plain_finding d = record { said = entry_of d; notes = []; accepted = None }
+plain_finding d = record { said = entry_of d; notes = []; way = []; accepted = None }
 
 abbrev pub plain_package : PackageReport → FoundEntry
 plain_package r = record {
@@ -46,7 +48,12 @@ plain_package r = record {
 
 -- and with notes
 abbrev pub explained_finding : ExplainedDiagnostic → FindingEntry
-explained_finding e = record { said = entry_of e.diagnostic; notes = e.notes.items; accepted = None }
+explained_finding e = record {
+  said = entry_of e.diagnostic;
+  notes = e.notes.items;
+  way = e.way.items;
+  accepted = None;
+}
 
 abbrev pub explained_package : ExplainedPackage → FoundEntry
 explained_package p = record {
@@ -83,6 +90,7 @@ abbrev pub finding_view : Finding → FindingEntry
 finding_view f = record {
   said = entry_of f.diagnostic;
   notes = f.notes.items;
+  way = f.way.items;
   accepted = option_map accepted_view f.acceptance;
 }
 

@@ -12,11 +12,13 @@ pub enum Acceptance<'a> {
     ByBaseline,
 }
 
-/// A diagnostic with its notes, in the order in which they are to be read, and by what it is accepted, if it is.
+/// A diagnostic with its notes, in the order in which they are to be read, the offsets of the way of which they tell
+/// (those of `report::ExplainedDiagnostic`), and by what it is accepted, if it is.
 #[derive(Debug, Drop)]
 pub struct Finding<'a> {
     pub diagnostic: Diagnostic<'a>,
     pub notes: Vec<Note<'a>>,
+    pub way: Vec<u32>,
     pub acceptance: Option<Acceptance<'a>>,
 }
 

@@ -24,6 +24,7 @@ fn plain_findings<'a>(
         findings.push(Finding {
             diagnostic: *diagnostic,
             notes: Vec::new(alloc),
+            way: Vec::new(alloc),
             acceptance: None,
         })?;
     }
@@ -79,10 +80,15 @@ fn explained_findings<'a>(
         ≡ map explained_finding diagnostics.entry.items) }
 {
     let mut findings = Vec::new(alloc);
-    for ExplainedDiagnostic { diagnostic, notes } in diagnostics {
+    for ExplainedDiagnostic {
+        diagnostic,
+        notes,
+        way,
+    } in diagnostics {
         findings.push(Finding {
             diagnostic,
             notes,
+            way,
             acceptance: None,
         })?;
     }

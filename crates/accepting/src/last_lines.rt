@@ -6,7 +6,7 @@ ghost use Rattle.report.specs.Cursors.{IsAt};
 ghost use Rattle.report.specs.Entries.{entry_of};
 ghost use Rattle.report.specs.ReportText.{bytes_of};
 
-use crate::bodies::body_end;
+use function_spans::body_end;
 use lexer::Source;
 use report::{Cursor, Diagnostic, DiagnosticCode, moved};
 

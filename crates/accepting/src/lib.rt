@@ -4,7 +4,6 @@
 
 mod acceptable;
 mod baseline;
-mod bodies;
 mod directive_lines;
 mod findings;
 mod found_packages;
@@ -19,7 +18,6 @@ mod stale;
 mod telling;
 mod verdicts;
 
-pub use bodies::{begins_with, byte_at, is_of_word};
 pub use findings::{Acceptance, Finding, FoundPackage, Verdict};
 pub use found_packages::{
     explained_package, explained_packages, found, plain_package, plain_packages, told,

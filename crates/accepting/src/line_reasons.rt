@@ -125,17 +125,20 @@ pub(crate) fn accepted_on<'a>(
     let Finding {
         diagnostic,
         notes,
+        way,
         acceptance,
     } = finding;
     match first_reason(lines, diagnostic.file, first, last, diagnostic.code) {
         Some(reason) => Finding {
             diagnostic,
             notes,
+            way,
             acceptance: Some(Acceptance::ByLine(reason)),
         },
         None => Finding {
             diagnostic,
             notes,
+            way,
             acceptance,
         },
     }

@@ -29,6 +29,7 @@ fn plain_finding<'a>(alloc: Global, diagnostic: Diagnostic<'a>) -> Finding<'a>
     Finding {
         diagnostic,
         notes: Vec::new(alloc),
+        way: Vec::new(alloc),
         acceptance: None,
     }
 }

@@ -2,7 +2,7 @@
 
 ghost use Rattle.std.specs.Prelude.{◌≡◌, map};
 ghost use Rattle.std.specs.List.{list_all};
-ghost use Rattle.meaning.specs.Uses.{literals_between, is_deferred, is_deferred_use, is_started_by_it, are_members};
+ghost use Rattle.meaning.specs.Uses.{literals_between, is_deferred_use, is_run, runs_once, is_started_by_it, are_members};
 ghost use Rattle.mentions.specs.MarkViews.{body_view, use_view};
 ghost use Rattle.tracked.specs.LocalViews.{local_view};
 ghost use Rattle.tracked_rows.specs.RowViews.{known_view};
@@ -10,6 +10,7 @@ ghost use Rattle.tracked_rows.specs.RowViews.{known_view};
 use mentions::{BodyPlace, LiteralUse};
 use tracked::Local;
 use tracked_rows::{Known, local_meant};
+use tree::Edition;
 
 fn is_deferred(literal: LiteralUse<'_>) -> bool
     ensures { result ≡ is_deferred_use (use_view literal.entry) }
@@ -20,15 +21,36 @@ fn is_deferred(literal: LiteralUse<'_>) -> bool
     }
 }
 
-/// Whether each of the literals between is called under `defer`.
-pub fn are_all_deferred(body: u32, bodies: &[BodyPlace<'_>]) -> bool
-    ensures { result ≡ list_all is_deferred (literals_between body (map body_view bodies.now)) }
+/// Under `defer` or `go`.
+fn is_run(literal: LiteralUse<'_>) -> bool
+    ensures { result ≡ is_run (use_view literal.entry) }
+{
+    match literal {
+        LiteralUse::DeferredCall => true,
+        LiteralUse::CallUnderGo => true,
+        _ => false,
+    }
+}
+
+/// Whether the literal runs once, where its statement is reached: in the first edition one under `defer` alone.
+fn runs_once(edition: Edition, literal: BodyPlace<'_>) -> bool
+    ensures { result ≡ runs_once edition (body_view literal.entry) }
+{
+    match edition {
+        Edition::First => is_deferred(literal.literal),
+        Edition::Second => is_run(literal.literal),
+    }
+}
+
+/// Whether each of the literals between runs once.
+pub fn run_all_once(edition: Edition, body: u32, bodies: &[BodyPlace<'_>]) -> bool
+    ensures { result ≡ list_all (runs_once edition) (literals_between body (map body_view bodies.now)) }
 {
     for literal in bodies {
         if literal.at == body {
             return true;
         }
-        if !is_deferred(literal.literal) {
+        if !runs_once(edition, *literal) {
             return false;
         }
     }

@@ -9,7 +9,7 @@ ghost use Rattle.tracked_rows.specs.RowViews.{known_view};
 ghost use Rattle.tree.specs.View.{expression_syntax};
 
 use crate::allowed_use::{Use, allowed_if};
-use crate::between::{are_all_deferred, are_all_members};
+use crate::between::{are_all_members, run_all_once};
 use crate::local_mention::LocalMention;
 use crate::places::{
     has_no_argument, is_call_place, is_deferred_place, is_item_place, is_statement_or_value,
@@ -18,7 +18,7 @@ use crate::places::{
 use facts::TrackedType;
 use mentions::{Call, is_body};
 use tracked_rows::{Event, Known, callee_of, only};
-use tree::{Expr, ExprKind};
+use tree::{Edition, Expr, ExprKind};
 
 /// The only argument of a call, where no `...` stands after it.
 pub fn only_argument<'a>(call: Call<'_, 'a>) -> Option<&'a Expr>
@@ -98,13 +98,17 @@ pub fn group_tried<'a>(
     )
 }
 
-/// `g.Wait()` at a call place, and under `defer`; in literals where each one between is deferred, and not as an item.
-pub fn group_awaited<'a>(here: LocalMention<'_, '_, 'a>, call: Call<'_, 'a>) -> Use<'a>
-    ensures { use_view result ≡ group_awaited (local_view here.entry.local) (map body_view here.entry.bodies.now)
-        (call_view call.entry) }
+/// `g.Wait()` at a call place, and under `defer`; in literals where each one between runs once, and not as an item.
+pub fn group_awaited<'a>(
+    edition: Edition,
+    here: LocalMention<'_, '_, 'a>,
+    call: Call<'_, 'a>,
+) -> Use<'a>
+    ensures { use_view result ≡ group_awaited edition (local_view here.entry.local)
+        (map body_view here.entry.bodies.now) (call_view call.entry) }
 {
     let body = here.local.body;
-    if !has_no_argument(call) || !are_all_deferred(body, here.bodies) {
+    if !has_no_argument(call) || !run_all_once(edition, body, here.bodies) {
         return Use::NotAllowed;
     }
     let group = here.local.number;

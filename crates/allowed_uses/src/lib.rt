@@ -12,7 +12,7 @@ mod places;
 mod reads;
 
 pub use allowed_use::{Use, allowed_if};
-pub use between::{are_all_deferred, are_all_members};
+pub use between::{are_all_members, run_all_once};
 pub use cancels::has_its_arguments;
 pub use gives::{body_gives, hands_on, is_given_as};
 pub use groups::{
@@ -21,6 +21,6 @@ pub use groups::{
 pub use local_mention::{LocalMention, variable_at};
 pub use places::{
     has_no_argument, is_call_place, is_deferred_place, is_item_place, is_statement_or_value,
-    is_statement_place, is_value_place, takes,
+    is_statement_place, is_under_go, is_value_place, item_variable, takes,
 };
 pub use reads::cancel_use_by;

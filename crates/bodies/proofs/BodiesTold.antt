@@ -2,7 +2,8 @@
 use Rattle.std.proofs.Common.{◌≡◌, ℕ, Bool, true, false, ◌&&◌, List, length, map, refl, sym, ap, ◌∙◌, subst}
 use Rattle.std.specs.Prelude.{◌==◌, not}
 use Rattle.std.proofs.lemmas.List.{length-map}
-use Rattle.std.specs.List.{AllZip}
+use Rattle.std.specs.List.{AllZip, list_any}
+use Rattle.lists.specs.ListViews.{items_at}
 use Rattle.bodies.specs.declared.body.Body.{Body as KeptBody}
 use Rattle.bodies.specs.Bodies.{is_unfollowed, IsGraphIf, TellsBody, TellsPlace, TellBodies}
 use Rattle.bodies.proofs.ZippedLists.{zipped_views, zipped_at}
@@ -24,8 +25,10 @@ pub tells_place : (file : ℕ) (told : Told) (variables : Variables) (place : Ke
     → kept.is_unfollowed ≡ is_unfollowed seen (body_view place))
     → are_judged ≡ (not (length kept.variables.items == 0) && not kept.is_unfollowed)
     → IsGraphIf are_judged told (body_view place) kept.graph
+    → kept.edition ≡ told.edition
+    → kept.bound.now ≡ items_at told.bound place.at
     → TellsPlace file told variables (body_view place) kept
-tells_place file told variables place kept are_judged is_file is_place are unfollowed judged graph seen of_file of_all =
+tells_place file told variables place kept are_judged is_file is_place are unfollowed judged graph by bound seen of_file of_all =
     let are_variables = are ∙ of_all place.at in
     let size : length kept.variables.items ≡ length (variables_of seen place.at) =
     sym (length-map kept.variables.items variable_view) ∙ ap length are_variables in
@@ -34,6 +37,8 @@ tells_place file told variables place kept are_judged is_file is_place are unfol
       is_place = ap body_view is_place;
       are_variables = are_variables;
       unfollowed = unfollowed seen are_variables;
+      is_edition = by ∙ of_file.edition;
+      binds = λ number. ap (list_any (λ n. n == number)) bound ∙ of_file.bound place.at number;
       has_graph =
           graph.has_graph
           ∙ (judged

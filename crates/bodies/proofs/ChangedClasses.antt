@@ -1,11 +1,12 @@
 -- Which classes have bits: where a class has one, so has what an event makes of it, as long as the group in which it
 -- starts a literal is one of those with bits.
 use Rattle.std.proofs.Common.{◌≡◌, ℕ, ◌≤◌, Bool, true, false, if◌then◌else◌, List, length, Option, Some, None, Contains, refl}
+use Rattle.std.specs.List.{list_any}
 use Rattle.std.specs.Prelude.{◌==◌, ◌&&◌}
 use Rattle.bodies.proofs.ClassNumbers.{pending_found}
 use Rattle.bodies.specs.Bits.{cancel_bit}
-use Rattle.meaning.specs.Classes.{Promises, CancelClass, unset, opened, kept, safe, pending, change_cancel, left_to, ended, started, given_back, kept_from, settled_from_kept, settled_from_open}
-use Rattle.meaning.specs.Uses.{Event, other, obtain, obtain_kept, renew, keep, call_kept, defer_kept, give, give_field, clear, call, defer_call, pass, defer_pass, lend, start, try, wait, defer_wait, make, defer_literal, return_event}
+use Rattle.meaning.specs.Classes.{Promises, CancelClass, unset, opened, kept, safe, pending, change_cancel, left_to, ended, started, given_back, kept_from, settled_from_kept, settled_from_open, waited_over, taken_over}
+use Rattle.meaning.specs.Uses.{Work, go_call, go_pass, go_literal, Event, other, obtain, obtain_kept, renew, keep, call_kept, defer_kept, give, give_field, clear, call, defer_call, pass, defer_pass, lend, start, try, wait, defer_wait, make, defer_literal, go, return_event}
 
 abbrev pub HasBit : {K : Type 0} → (K → Option ℕ) → K → Type 0
 HasBit bit_of k = (bit : ℕ) × (bit_of k ≡ Some bit)
@@ -70,6 +71,20 @@ module _ (groups : List ℕ) (fits : length groups ≤ 12) where
   settled_open_has safe h = h
   settled_open_has (pending g) h = h
 
+  waited_has : (p : Promises) (literal : ℕ) (k : CancelClass) → HasOne k → HasOne (waited_over p literal k)
+  waited_has p literal unset h = h
+  waited_has p literal opened h = h
+  waited_has p literal kept h = h
+  waited_has p literal safe h = h
+  waited_has p literal (pending g) h = if_has (p.credits literal g) safe (pending g) (2, refl) h
+
+  taken_has : (p : Promises) (v : ℕ) (work : Work) (k : CancelClass) → HasOne k → HasOne (taken_over p v work k)
+  taken_has p v (go_call u) k h = if_has (u == v) safe k (2, refl) h
+  taken_has p v (go_pass f xs) k h =
+      if_has (list_any (λ x. (x.number == v) && p.calls f x.position) xs) safe k (2, refl) h
+  taken_has p v (go_literal literal) k h =
+      if_has (p.credits literal v) safe (waited_over p literal k) (2, refl) (waited_has p literal k h)
+
   pub change_has : (p : Promises) (v : ℕ) (e : Event) (k : CancelClass) → StartsAmong groups e → HasOne k
       → HasOne (change_cancel p v e k)
   change_has p v other k among h = h
@@ -93,4 +108,5 @@ module _ (groups : List ℕ) (fits : length groups ≤ 12) where
   change_has p v (defer_wait g) k among h = h
   change_has p v (make g state) k among h = ended_has g.number k h
   change_has p v (defer_literal literal) k among h = if_has (p.credits literal v) safe k (2, refl) h
+  change_has p v (go work) k among h = taken_has p v work k h
   change_has p v (return_event handed) k among h = h

@@ -1,6 +1,6 @@
 -- The bodies of a file in memory: each made once, with its variables and its graph, for whoever asks for its paths.
 use Rattle.std.specs.Prelude.{ℕ, ◌≡◌, ◌==◌, not, ◌&&◌, Bool, List, length, map, Option, Some, is_some}
-use Rattle.std.specs.List.{AllZip}
+use Rattle.std.specs.List.{AllZip, list_any}
 use Rattle.std.specs.List.Sorted.{IsPermutation}
 use Rattle.bodies.specs.declared.body.Body.{Body as KeptBody}
 use Rattle.bodies.specs.declared.graph.BodyGraph.{BodyGraph as KeptGraph}
@@ -17,6 +17,7 @@ use Rattle.meaning.specs.Code.{Code}
 use Rattle.meaning.specs.Mentions.{BodyPlace}
 use Rattle.meaning.specs.StatementCode.{body_code}
 use Rattle.meaning.specs.Uses.{Seen, Event}
+use Rattle.meaning_packages.specs.Credits.{binds_captured}
 use Rattle.mentions.specs.MarkViews.{body_view}
 
 -- the paths of the body are not followed
@@ -43,6 +44,10 @@ pub record TellsBody (file : ℕ) (seen : Seen) (b : BodyPlace) (kept : KeptBody
   pub is_place : body_view kept.place ≡ b
   pub are_variables : map variable_view kept.variables.items ≡ variables_of seen b.at
   pub unfollowed : kept.is_unfollowed ≡ is_unfollowed seen b
+  pub is_edition : kept.edition ≡ seen.known.edition
+  -- what it, or a literal in it, may bind
+  pub binds : (number : ℕ)
+      → list_any (λ n. n == number) kept.bound.now ≡ binds_captured seen.known.edition seen b.at number
   pub has_graph : is_some kept.graph ≡ has_paths seen b
   pub is_graph : (g : KeptGraph) → kept.graph ≡ Some g → IsOrderedGraph (code_in seen b) g
 

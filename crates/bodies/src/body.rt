@@ -12,6 +12,7 @@ use crate::graph::{BodyGraph, ordered_graph};
 use events::{Told, Variable, Variables, unfollowed};
 use mentions::BodyPlace;
 use std::alloc::{AllocError, Global};
+use tree::Edition;
 
 /// A body of a file that was told of: made once, and taken by whoever asks for its paths.
 #[derive(Drop)]
@@ -25,6 +26,10 @@ pub struct Body<'e, 'a> {
     /// Its paths are not followed, and nothing is said of them: it has more cancel functions or groups than a body may
     /// have, or a `goto` beside one.
     pub is_unfollowed: bool,
+    /// The edition by which its file is judged.
+    pub edition: Edition,
+    /// In the second edition the numbers of the locals to which it, or a literal in it, may give another value.
+    pub bound: &'e [u32],
     /// The graph of its code, where it has a variable, and its paths are followed.
     pub graph: Option<BodyGraph<'e, 'a>>,
 }
@@ -90,6 +95,8 @@ pub fn body_at<'e, 'a>(
         place,
         variables,
         is_unfollowed,
+        edition: told.edition,
+        bound: told.bound.at(place.at),
         graph,
     })
 }

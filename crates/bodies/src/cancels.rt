@@ -1,15 +1,17 @@
 //! What is known of a cancel variable.
 
-ghost use Rattle.std.specs.Prelude.{◌≡◌};
-ghost use Rattle.tracked_rows.specs.EventViews.{event_view};
-ghost use Rattle.meaning.specs.Classes.{change_cancel, entry_cancel, left_to, ended, started, given_back, kept_from, settled_from_kept, settled_from_open};
+ghost use Rattle.std.specs.Prelude.{◌≡◌, ◌==◌, ◌&&◌, map};
+ghost use Rattle.std.specs.List.{list_any};
+ghost use Rattle.tracked_rows.specs.EventViews.{callee_view, event_view, sent_view};
+ghost use Rattle.meaning.specs.Uses.{go_literal};
+ghost use Rattle.meaning.specs.Classes.{change_cancel, entry_cancel, left_to, ended, started, given_back, kept_from, settled_from_kept, settled_from_open, taken_over, waited_over};
 ghost use Rattle.bodies.specs.ClassViews.{cancel_class_view};
 ghost use Rattle.events.specs.VariableViews.{variable_role_view};
 
 use crate::changed::changed_if;
 use crate::promises::Promises;
 use events::VariableRole;
-use tracked_rows::Event;
+use tracked_rows::{Callee, Event, Sent};
 
 /// What is known of a cancel variable.
 #[derive(Clone, Copy)]
@@ -19,7 +21,8 @@ pub enum CancelClass {
     Opened,
     /// The newest object of a declaration holds its function in a field, and was not given to others yet.
     Kept,
-    /// Its function was called, or its call is saved for the return, or others got it in a field.
+    /// Its function was called, or its call is saved for the return, or others got it in a field, or a goroutine that
+    /// was started sees to it.
     Safe,
     /// A literal that calls it was started in the group of that number.
     Pending(u32),
@@ -125,6 +128,65 @@ fn settled_from_open(class: CancelClass) -> CancelClass
     }
 }
 
+/// A literal under `go` waits for the group in which it is pending, if it does.
+fn waited_over<P: Promises>(promises: &P, literal: u32, class: CancelClass) -> CancelClass
+    ensures { cancel_class_view result ≡ waited_over (P.promises promises.now) literal (cancel_class_view class) }
+{
+    match class {
+        CancelClass::Pending(group) => {
+            if promises.credits(literal, group) {
+                CancelClass::Safe
+            } else {
+                class
+            }
+        }
+        other => other,
+    }
+}
+
+/// A literal is called under `go`.
+fn taken_over<P: Promises>(
+    promises: &P,
+    variable: u32,
+    literal: u32,
+    class: CancelClass,
+) -> CancelClass
+    ensures { cancel_class_view result ≡ taken_over (P.promises promises.now) variable (go_literal literal)
+        (cancel_class_view class) }
+{
+    if promises.credits(literal, variable) {
+        CancelClass::Safe
+    } else {
+        waited_over(promises, literal, class)
+    }
+}
+
+/// Whether a function under `go` that gets this is known to call the variable.
+fn is_called_by<P: Promises>(promises: &P, variable: u32, callee: Callee<'_>, one: Sent) -> bool
+    ensures { result ≡ ((one.number == variable) && (P.promises promises.now).calls (callee_view callee.entry)
+        one.position) }
+{
+    one.number == variable && promises.calls(callee, one.position)
+}
+
+/// Whether a function under `go` that gets these is known to call the variable.
+fn is_called_there<P: Promises>(
+    promises: &P,
+    variable: u32,
+    callee: Callee<'_>,
+    sent: &[Sent],
+) -> bool
+    ensures { result ≡ list_any (λ x. (x.number == variable) && (P.promises promises.now).calls
+        (callee_view callee.entry) x.position) (map sent_view sent.now) }
+{
+    for one in sent {
+        if is_called_by(promises, variable, callee, *one) {
+            return true;
+        }
+    }
+    false
+}
+
 /// What is known of the cancel variable of that number after an event.
 pub fn change_cancel<P: Promises>(
     promises: &P,
@@ -197,6 +259,17 @@ pub fn change_cancel<P: Promises>(
                 class,
             )
         }
+        Event::GoCall { variable: called } => {
+            changed_if(*called == variable, CancelClass::Safe, class)
+        }
+        Event::GoPass { callee, sent } => {
+            changed_if(
+                is_called_there(promises, variable, *callee, sent),
+                CancelClass::Safe,
+                class,
+            )
+        }
+        Event::GoLiteral { literal } => taken_over(promises, variable, *literal, class),
         Event::Lend { .. } | Event::Try { .. } | Event::DeferWait { .. } | Event::Return { .. } =>
             class,
     }

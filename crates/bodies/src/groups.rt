@@ -43,7 +43,7 @@ fn at_work(class: GroupClass) -> GroupClass
     }
 }
 
-/// The work of the group has ended.
+/// The work of the group has ended, or a goroutine that was started waits for it.
 fn at_rest(class: GroupClass) -> GroupClass
     ensures { group_class_view result ≡ at_rest (group_class_view class) }
 {
@@ -80,6 +80,9 @@ pub fn change_group<P: Promises>(
                 class,
             )
         }
+        Event::GoLiteral { literal } => {
+            changed_if(promises.credits(*literal, variable), at_rest(class), class)
+        }
         Event::Obtain { .. }
         | Event::ObtainKept { .. }
         | Event::Renew { .. }
@@ -93,6 +96,8 @@ pub fn change_group<P: Promises>(
         | Event::DeferCall { .. }
         | Event::Pass { .. }
         | Event::DeferPass { .. }
+        | Event::GoCall { .. }
+        | Event::GoPass { .. }
         | Event::Return { .. } => class,
     }
 }

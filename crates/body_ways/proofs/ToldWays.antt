@@ -15,6 +15,7 @@ use Rattle.path_faults.specs.FaultViews.{fault_view}
 use Rattle.path_faults.specs.declared.fault.PathFault.{PathFault as KeptFault}
 use Rattle.reasons.specs.Branches.{Branch}
 use Rattle.way_notes.specs.Notes.{Note, notes_of_way}
+use Rattle.way_notes.specs.Offsets.{AreOffsets}
 use Rattle.ways.specs.Found.{FoundWay, IsWayAs, Tells}
 
 -- One fault
@@ -24,15 +25,20 @@ pub told_so : (b : Paths) (branches : List Branch) (f : PathFault) (w : FoundWay
     → Tells g w.nodes (IsWayAs b f w)
     → (nodes : List ℕ)
     → nodes ≡ w.nodes
+    → (again : List ℕ)
+    → again ≡ w.nodes
     → (notes : List Note)
     → notes ≡ notes_of_way g branches (told_of w) nodes
+    → (offsets : List ℕ)
+    → AreOffsets g again offsets
     → IsPathFault b f
-    → IsToldWay b branches record { fault = f; notes = notes }
-told_so b branches f w g is_graph tells nodes same notes are is_fault = record {
+    → IsToldWay b branches record { fault = f; notes = notes; offsets = offsets }
+told_so b branches f w g is_graph tells nodes same again same_again notes are offsets at is_fault = record {
   is_fault = is_fault;
   way = w;
   is_way = subst (λ h. Tells h w.nodes (IsWayAs b f w)) is_graph tells;
   are_notes = are ∙ (λ i. notes_of_way (is_graph i) branches (told_of w) (same i));
+  are_offsets = subst (λ h. AreOffsets h w.nodes offsets) is_graph (subst (λ ns. AreOffsets g ns offsets) same_again at);
 }
 
 -- All faults

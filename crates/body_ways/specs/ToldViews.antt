@@ -8,7 +8,11 @@ use Rattle.reasons.specs.Branches.{Branch}
 use Rattle.way_notes.specs.NoteViews.{note_view}
 
 abbrev pub told_fault_view : ToldFault → ToldWay
-told_fault_view t = record { fault = fault_view t.fault; notes = map note_view t.notes.items }
+told_fault_view t = record {
+  fault = fault_view t.fault;
+  notes = map note_view t.notes.items;
+  offsets = t.offsets.items;
+}
 
 -- the fault is added, with the notes of a way to it
 pub record AddsTold (b : Paths) (branches : List Branch) (f : PathFault) (before after : List ToldWay) : Type 0 where

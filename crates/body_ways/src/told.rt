@@ -20,14 +20,16 @@ use credits::{Calls, Credits, Reliance, search_body};
 use path_faults::{Lives, PathFault, live_groups, path_faults};
 use reasons::{Branch, branches_of};
 use std::alloc::{AllocError, Global};
-use way_notes::{Note, Told, notes_of};
+use way_notes::{Note, Told, notes_of, offsets_of};
 use ways::{Asked, way_to};
 
-/// A fault of a body's paths, with the notes of a shortest way to it.
+/// A fault of a body's paths, with the notes of a shortest way to it, and the byte offsets of the statements through
+/// which that goes, in the order of the text, each once.
 #[derive(Drop)]
 pub struct ToldFault<'a> {
     pub fault: PathFault<'a>,
     pub notes: Vec<Note>,
+    pub offsets: Vec<u32>,
 }
 
 /// Adds the fault with the notes of a shortest way to it.
@@ -51,7 +53,12 @@ fn add_told<'a, P: Promises, L: Lives>(
         group: way.group,
     };
     let notes = notes_of(alloc, asked.graph, branches, of, &way.nodes)?;
-    told.push(ToldFault { fault, notes })?;
+    let offsets = offsets_of(alloc, asked.graph, &way.nodes)?;
+    told.push(ToldFault {
+        fault,
+        notes,
+        offsets,
+    })?;
     Ok(())
 }
 

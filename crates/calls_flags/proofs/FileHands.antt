@@ -14,8 +14,8 @@ use Rattle.lists.specs.ListViews.{items_at}
 use Rattle.meaning.proofs.Membership.{contains_here, contains_there, contains_cases, contains_nil, contains_map, contains_unmap}
 use Rattle.meaning.specs.BodyEvents.{events_at}
 use Rattle.meaning.specs.Mentions.{BodyPlace}
-use Rattle.meaning.specs.Uses.{Callee, Event, other, obtain, obtain_kept, renew, keep, call_kept, defer_kept, give, give_field, clear, call, defer_call, pass, defer_pass, lend, start, try, wait, defer_wait, make, defer_literal, return_event, Seen}
-use Rattle.meaning_reports.specs.UsedImports.{HandsTo, passes, defers, lends, HandsThere}
+use Rattle.meaning.specs.Uses.{Callee, go_call, go_pass, go_literal, Event, other, obtain, obtain_kept, renew, keep, call_kept, defer_kept, give, give_field, clear, call, defer_call, pass, defer_pass, lend, start, try, wait, defer_wait, make, defer_literal, go, return_event, Seen}
+use Rattle.meaning_reports.specs.UsedImports.{HandsTo, passes, defers, lends, goes, HandsThere}
 use Rattle.mentions.specs.MarkViews.{body_view}
 use Rattle.mentions.specs.declared.mark.BodyPlace.{BodyPlace as KeptBody}
 use Rattle.tracked_rows.specs.EventViews.{event_view}
@@ -79,12 +79,16 @@ hands_so path (wait v) h = absurd (false≢true h)
 hands_so path (defer_wait v) h = absurd (false≢true h)
 hands_so path (make u state) h = absurd (false≢true h)
 hands_so path (defer_literal at) h = absurd (false≢true h)
+hands_so path (go (go_call u)) h = absurd (false≢true h)
+hands_so path (go (go_pass f xs)) h = record { callee = f; is_of = is_its_path path f.path h; hands = goes }
+hands_so path (go (go_literal at)) h = absurd (false≢true h)
 hands_so path (return_event handed) h = absurd (false≢true h)
 
 so_hands : (path : List ℕ) (f : Callee) (e : Event) → f.path ≡ Some path → HandsTo f e → event_hands path e ≡ true
 so_hands path f e is passes = path_is path f.path is
 so_hands path f e is defers = path_is path f.path is
 so_hands path f e is lends = path_is path f.path is
+so_hands path f e is goes = path_is path f.path is
 
 -- Sites
 

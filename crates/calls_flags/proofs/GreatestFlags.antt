@@ -9,10 +9,12 @@ use Rattle.std.proofs.lemmas.Slice.Eq.{bytes_eq-Decides}
 use Rattle.meaning.proofs.Membership.{contains_nil, contains_here, contains_there, contains_cases}
 use Rattle.meaning.specs.FunctionFacts.{FunctionFacts}
 use Rattle.meaning.specs.BodyEvents.{bodies_of, variables_of}
+use Rattle.meaning_packages.specs.Credits.{promises_in}
 use Rattle.meaning_packages.specs.CallsFlags.{Flags, calls_by, FileWithCredits, IsKept, AreConsistent, AreMost}
 use Rattle.path_faults.proofs.Places.{place_of, contains_at, any_witness, any_holds}
 use Rattle.calls_flags.specs.Claims.{Claim, all_claims, flags_claimed, IsClaimOf, IsOneOf, KeepsClaim, AreClaims, HaveFacts, Sieves, ends, keeps, drops}
 use Rattle.calls_flags.proofs.ClaimsOf.{claim_of, claim_among}
+use Rattle.calls_flags.proofs.ComesBack.{by_code_alone}
 use Rattle.calls_flags.proofs.MoreCalls.{keeps_still, calls_still}
 
 -- What a round leaves
@@ -101,7 +103,7 @@ module _ (fs : List FileWithCredits) (imported : List ℕ → Flags) where
       record {
         claim = c;
         is_one = record { file = h.file; body = h.body; variable = h.variable; is_claim = is };
-        is_kept = record { file = h.file; body = h.body; variable = h.variable; is_claim = is; keeps = h.keeps };
+        is_kept = record { file = h.file; body = h.body; variable = h.variable; is_claim = is; keeps = (h.comes_back, h.keeps) };
         same_name = refl;
         same_position = refl;
       }
@@ -114,7 +116,8 @@ module _ (fs : List FileWithCredits) (imported : List ℕ → Flags) where
     variable = h.variable;
     is_of_package = contains_at fs c.file h.file h.is_claim.is_file;
     is_claim = h.is_claim.is_claim;
-    keeps = h.keeps;
+    comes_back = h.keeps.0;
+    keeps = h.keeps.1;
   }
 
   -- the claims are some of the package's, and what consistent flags keep is among them
@@ -156,10 +159,14 @@ module _ (fs : List FileWithCredits) (imported : List ℕ → Flags) where
           body = kept.body;
           variable = kept.variable;
           is_claim = kept.is_claim;
-          keeps =
-              keeps_still (calls_by others imported) (calls_by (flags_claimed claims) imported)
-              (calls_still others (flags_claimed claims) (claimed_too claims enough others consistent) imported)
-              kept.file.seen kept.file.credits kept.body kept.variable kept.keeps;
+          keeps = (
+            by_code_alone kept.file.seen.known.edition kept.file.seen
+                (promises_in (calls_by others imported) kept.file.credits kept.body.at)
+                (promises_in (calls_by (flags_claimed claims) imported) kept.file.credits kept.body.at) kept.body kept.keeps.0,
+            keeps_still (calls_by others imported) (calls_by (flags_claimed claims) imported)
+                (calls_still others (flags_claimed claims) (claimed_too claims enough others consistent) imported)
+                kept.file.seen kept.file.credits kept.body kept.variable kept.keeps.1,
+          );
         });
   }
 

@@ -6,43 +6,31 @@ use Rattle.std.proofs.lemmas.Option.{slice_get_within, slice_get_read}
 use Rattle.meaning.specs.BodyEvents.{Variable, bodies_of, variables_of, unfollowed_faults}
 use Rattle.meaning.specs.Mentions.{BodyPlace}
 use Rattle.meaning.specs.FunctionFacts.{cancel}
-use Rattle.meaning.specs.Uses.{Callee}
+use Rattle.meaning.specs.Uses.{Callee, Seen}
 use Rattle.meaning_packages.specs.CallsFlags.{FileWithCredits}
-use Rattle.meaning_packages.specs.Credits.{promises_in}
-use Rattle.meaning_packages.specs.PathFaults.{paths_of, KeepsCall}
+use Rattle.meaning_packages.specs.Credits.{Credits}
 use Rattle.calls_flags.specs.declared.file_bodies.FileBodies.{FileBodies}
 use Rattle.calls_flags.specs.FilesBodies.{TellsWithCredits, TellAll}
-use Rattle.calls_flags.specs.Claims.{Claim, claim_view, AreClaims, IsClaimOf, IsOneOf, KeepsClaim, Sieves, ends, keeps, drops}
+use Rattle.calls_flags.specs.Claims.{Claim, claim_view, AreClaims, IsClaimOf, IsOneOf, KeepsThere, KeepsClaim, Sieves, ends, keeps, drops}
 use Rattle.calls_flags.specs.declared.claims.Claim.{Claim as KeptClaim}
 use Rattle.meaning.proofs.Membership.{contains_map}
 
-module _ (files : List FileBodies) (calls : Callee → ℕ → Bool) (c : Claim) where
-  pub kept_in : (file : FileBodies) → c.file < length files → file ≡ get_or files c.file file
+module _ (files : List FileBodies) (Holds : Seen → Credits → BodyPlace → Variable → Type 0) (c : Claim) where
+  -- whether it holds of the claim's body and variable, which stand in the file
+  pub holds_in : (file : FileBodies) → c.file < length files → file ≡ get_or files c.file file
       → (is : Bool)
       → ((number : ℕ) (f : FileWithCredits) → TellsWithCredits number f file
       → (b : BodyPlace) → slice_get (bodies_of f.seen) c.body ≡ Some b
       → unfollowed_faults f.seen b ≡ []
       → (v : Variable) → slice_get (variables_of f.seen b.at) c.place ≡ Some v → v.kind ≡ cancel
-      → IsTrue is ↔ KeepsCall (paths_of f.seen (promises_in calls f.credits b.at) b) v)
+      → IsTrue is ↔ Holds f.seen f.credits b v)
       → (fs : List FileWithCredits) → TellAll fs files
       → (f : FileWithCredits) (b : BodyPlace) (v : Variable) → IsClaimOf fs c f b v
-      → IsTrue is ↔ KeepsClaim fs calls c
-  kept_in file within there is by_body fs tell f b v claim =
-      let at = slice_get_read files (length files) c.file file refl within there in (
-        λ t. record {
-          file = f;
-          body = b;
-          variable = v;
-          is_claim = claim;
-          keeps =
-              (by_body c.file f (tell.each c.file f file claim.is_file at) b claim.is_body claim.is_claim.is_followed v
-              claim.is_variable claim.is_claim.is_cancel_variable).0 t;
-        },
-        λ k.
-            let one = k.is_claim in
-            (by_body c.file k.file (tell.each c.file k.file file one.is_file at) k.body one.is_body one.is_claim.is_followed
-            k.variable one.is_variable one.is_claim.is_cancel_variable).1 k.keeps,
-      )
+      → IsTrue is ↔ Holds f.seen f.credits b v
+  holds_in file within there is by_body fs tell f b v claim =
+      by_body c.file f
+      (tell.each c.file f file claim.is_file (slice_get_read files (length files) c.file file refl within there)) b
+      claim.is_body claim.is_claim.is_followed v claim.is_variable claim.is_claim.is_cancel_variable
 
   pub no_file : length files ≤ c.file → (fs : List FileWithCredits) → TellAll fs files
       → (f : FileWithCredits) (b : BodyPlace) (v : Variable) → IsClaimOf fs c f b v → ⊥
@@ -50,6 +38,18 @@ module _ (files : List FileBodies) (calls : Callee → ℕ → Bool) (c : Claim)
       let size = tell.are_as_many in
       let within = slice_get_within fs c.file f claim.is_file in
       omega (arith, past, size, within)
+
+-- the claim is kept, where it holds of its body and variable
+pub kept_in : (files : List FileBodies) (calls : Callee → ℕ → Bool) (c : Claim) (is : Bool)
+    → ((fs : List FileWithCredits) → TellAll fs files → (f : FileWithCredits) (b : BodyPlace) (v : Variable)
+    → IsClaimOf fs c f b v → IsTrue is ↔ KeepsThere calls f.seen f.credits b v)
+    → (fs : List FileWithCredits) → TellAll fs files
+    → (f : FileWithCredits) (b : BodyPlace) (v : Variable) → IsClaimOf fs c f b v
+    → IsTrue is ↔ KeepsClaim fs calls c
+kept_in files calls c is holds fs tell f b v claim = (
+  λ t. record { file = f; body = b; variable = v; is_claim = claim; keeps = (holds fs tell f b v claim).0 t },
+  λ k. (holds fs tell k.file k.body k.variable k.is_claim).1 k.keeps,
+)
 
 -- what was kept so far, with what is kept of the claims that are left, is what is kept of all
 abbrev pub SievesOn : (Claim → Type 0) → List Claim → List Claim → List Claim → Type 0

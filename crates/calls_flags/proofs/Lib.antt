@@ -1,4 +1,5 @@
 mod BodiesKept
+pub mod ComesBack
 mod ClaimedParameters
 mod ClaimsAdded
 pub mod ClaimsOf

@@ -1,11 +1,13 @@
 -- Where more is known of what functions call, a variable whose call the paths kept is kept still.
 use Rattle.std.proofs.Common.{◌≡◌, ℕ, ◌⊎◌, inl, inr, Bool, true, false, ◌&&◌, if◌then◌else◌, List, [], ◌∷◌, Option, Some, None, refl, sym, ap, ◌∙◌}
 use Rattle.std.specs.Prelude.{◌==◌}
+use Rattle.std.specs.List.{list_any}
+use Rattle.std.proofs.lemmas.Bool.{false≢true, and_parts, and_from, or_cases, or_left, or_right}
 use Rattle.meaning.specs.Code.{Occurrence}
 use Rattle.meaning.specs.Mentions.{BodyPlace}
-use Rattle.meaning.specs.Uses.{Callee, Event, other, obtain, obtain_kept, renew, keep, call_kept, defer_kept, give, give_field, clear, call, defer_call, pass, defer_pass, lend, start, try, wait, defer_wait, make, defer_literal, return_event, Seen}
+use Rattle.meaning.specs.Uses.{Callee, Sent, Work, go_call, go_pass, go_literal, Event, other, obtain, obtain_kept, renew, keep, call_kept, defer_kept, give, give_field, clear, call, defer_call, pass, defer_pass, lend, start, try, wait, defer_wait, make, defer_literal, go, return_event, Seen}
 use Rattle.meaning.specs.BodyEvents.{Variable}
-use Rattle.meaning.specs.Classes.{Promises, CancelClass, unset, opened, kept, safe, pending, entry_cancel, left_to, ended, started, given_back, kept_from, settled_from_kept, settled_from_open, change_cancel, cancel_after, GroupClass, entry_group, change_group, group_after}
+use Rattle.meaning.specs.Classes.{Promises, CancelClass, unset, opened, kept, safe, pending, entry_cancel, left_to, ended, started, given_back, kept_from, settled_from_kept, settled_from_open, waited_over, taken_over, change_cancel, cancel_after, GroupClass, entry_group, change_group, group_after}
 use Rattle.meaning_packages.specs.PathFaults.{paths_of, KeepsCall}
 use Rattle.meaning_packages.specs.Credits.{Credits, promises_in, begun_after}
 use Rattle.meaning_packages.specs.CallsFlags.{Flags, flag_of, calls_by}
@@ -47,6 +49,43 @@ module _ (fewer more : Callee → ℕ → Bool) (grows : (f : Callee) (k : ℕ) 
   started_no_worse v g None k j h = h
   started_no_worse v g (Some literal) k j h = moved_if (credits literal v) (left_to g) k j refl h
 
+  sent_grows : (v : ℕ) (f : Callee) (xs : List Sent) → list_any (λ x. (x.number == v) && fewer f x.position) xs ≡ true
+      → list_any (λ x. (x.number == v) && more f x.position) xs ≡ true
+  sent_grows v f [] e = absurd (false≢true e)
+  sent_grows v f (x ∷ xs) e =
+      elim (or_cases ((x.number == v) && fewer f x.position) _ e) [
+        | inl here ↦
+            let parts = and_parts (x.number == v) (fewer f x.position) here in
+            or_left ((x.number == v) && more f x.position) _
+            (and_from (x.number == v) (more f x.position) parts.0 (grows f x.position parts.1))
+        | inr later ↦ or_right ((x.number == v) && more f x.position) _ (sent_grows v f xs later)
+      ]
+
+  waited_no_worse : (literal : ℕ) (k j : CancelClass) → NoWorse k j
+      → NoWorse (waited_over before literal k) (waited_over after literal j)
+  waited_no_worse literal k j (inl e) = inl (ap (waited_over after literal) e ∙ same_wait k)
+    where
+      same_wait : (k : CancelClass) → waited_over after literal k ≡ waited_over before literal k
+      same_wait unset = refl
+      same_wait opened = refl
+      same_wait kept = refl
+      same_wait safe = refl
+      same_wait (pending g) = refl
+  waited_no_worse literal k j (inr e) = inr (ap (waited_over after literal) e)
+
+  either_no_worse : (t : Bool) (l m : CancelClass) → NoWorse l m → NoWorse (if t then safe else l) (if t then safe else m)
+  either_no_worse true l m h = inr refl
+  either_no_worse false l m h = h
+
+  work_no_worse : (v : ℕ) (work : Work) (k j : CancelClass) → NoWorse k j
+      → NoWorse (taken_over before v work k) (taken_over after v work j)
+  work_no_worse v (go_call u) k j h = chosen (u == v) safe k j h
+  work_no_worse v (go_pass f xs) k j h =
+      passed true (list_any (λ x. (x.number == v) && fewer f x.position) xs)
+      (list_any (λ x. (x.number == v) && more f x.position) xs) k j (sent_grows v f xs) h
+  work_no_worse v (go_literal literal) k j h =
+      either_no_worse (credits literal v) _ _ (waited_no_worse literal k j h)
+
   change_no_worse : (v : ℕ) (e : Event) (k j : CancelClass) → NoWorse k j
       → NoWorse (change_cancel before v e k) (change_cancel after v e j)
   change_no_worse v other k j h = h
@@ -70,6 +109,7 @@ module _ (fewer more : Callee → ℕ → Bool) (grows : (f : Callee) (k : ℕ) 
   change_no_worse v (defer_wait g) k j h = h
   change_no_worse v (make g state) k j h = moved (ended g.number) k j refl h
   change_no_worse v (defer_literal literal) k j h = chosen (credits literal v) safe k j h
+  change_no_worse v (go work) k j h = work_no_worse v work k j h
   change_no_worse v (return_event handed) k j h = h
 
   pub after_no_worse : (v : ℕ) (k j : CancelClass) (t : List (Occurrence Event)) → NoWorse k j
@@ -101,6 +141,9 @@ module _ (fewer more : Callee → ℕ → Bool) (grows : (f : Callee) (k : ℕ) 
   same_change v (defer_wait g) k = refl
   same_change v (make g state) k = refl
   same_change v (defer_literal literal) k = refl
+  same_change v (go (go_call u)) k = refl
+  same_change v (go (go_pass f xs)) k = refl
+  same_change v (go (go_literal literal)) k = refl
   same_change v (return_event handed) k = refl
 
   pub same_group : (v : ℕ) (k : GroupClass) (t : List (Occurrence Event))

@@ -1,13 +1,16 @@
 -- Files that were told of as they were seen, one after the other, and those that are not walked.
-use Rattle.std.proofs.Common.{◌≡◌, ℕ, zero, suc, ◌+◌, Bool, List, [], ◌∷◌, ◌++◌, map, Some, None, refl, sym, ap, ◌∙◌, subst, arith}
+use Rattle.std.proofs.Common.{◌≡◌, ℕ, zero, suc, ◌+◌, Bool, false, List, [], ◌∷◌, ◌++◌, map, Some, None, refl, sym, ap, ◌∙◌, subst, arith}
 use Rattle.std.specs.Prelude.{◌==◌, slice_get}
 use Rattle.std.specs.List.{list_any}
 use Rattle.std.proofs.lemmas.Option.{none-some, same_Some}
 use Rattle.std.proofs.lemmas.List.{append-nil, append_assoc}
+use Rattle.tree.specs.declared.edition.Edition.{Edition}
+use Rattle.tree.specs.declared.edition.Edition.TheVariants.{First, Second}
 use Rattle.tree.specs.Syntax.{SourceFile}
 use Rattle.meaning.specs.Tracked.{Known, placed, locals_of}
 use Rattle.meaning.specs.Uses.{Seen, seen_in}
 use Rattle.meaning.specs.BodyEvents.{bodies_of, variables_of}
+use Rattle.meaning_packages.specs.Credits.{binds_captured}
 use Rattle.mentions.specs.MarkViews.{body_view}
 use Rattle.events.specs.declared.told.Told.{Told}
 use Rattle.events.specs.ToldViews.{TellsFile, TellsNothing, events_of_site}
@@ -40,6 +43,11 @@ pub told_so : (s meant : Seen) → s ≡ meant → (kept : ToldFile)
 told_so s meant same kept tells variables none =
     subst (λ x. TellsSeen x kept) same (record { tells = tells; are_variables = variables; no_body = none })
 
+binds_nothing : (e : Edition) (known : Known) (body number : ℕ) → false ≡ binds_captured e (seen_in known []) body number
+unfolding placed
+binds_nothing First known body number = refl
+binds_nothing Second known body number = refl
+
 nothing_told : (known : Known) (told : Told) → TellsNothing known.edition told → TellsFile (seen_in known []) told
 unfolding placed
 nothing_told known told none = record {
@@ -47,6 +55,7 @@ nothing_told known told none = record {
   faults = λ body. ap (map _) (none.faults body);
   events = λ body at. ap (events_of_site at) (none.events body);
   panics = λ body at. ap (list_any (λ site. site == at)) (none.panics body);
+  bound = λ body number. ap (list_any (λ n. n == number)) (none.bound body) ∙ binds_nothing known.edition known body number;
   keeping = ap (map _) none.keeping;
   opened = ap (map body_view) none.opened;
   edition = none.edition;

@@ -11,9 +11,9 @@ use Rattle.meaning.specs.Mentions.{BodyPlace}
 use Rattle.meaning.specs.Uses.{Callee, Seen, UseFault, facts_take}
 use Rattle.meaning.specs.BodyEvents.{Variable, VariableRole, own_parameter, own_receiver, declared_in_body, captured, variables_of, unfollowed_faults}
 use Rattle.meaning_packages.specs.PathFaults.{paths_of, KeepsCall}
-use Rattle.meaning_packages.specs.Credits.{promises_in}
+use Rattle.meaning_packages.specs.Credits.{Credits, no_calls, promises_in}
 use Rattle.meaning.specs.BodyEvents.{bodies_of}
-use Rattle.meaning_packages.specs.CallsFlags.{Flags, FileWithCredits, IsClaim}
+use Rattle.meaning_packages.specs.CallsFlags.{Flags, ComesBackBy, FileWithCredits, IsClaim}
 use Rattle.path_faults.specs.FoundFaults.{each_from}
 use Rattle.calls_flags.specs.declared.claims.Claim.{Claim as KeptClaim}
 
@@ -108,13 +108,24 @@ pub record IsOneOf (files : List FileWithCredits) (c : Claim) : Type 0 where
   pub variable : Variable
   pub is_claim : IsClaimOf files c file body variable
 
+-- some return of the body is reached, if the edition asks for that
+abbrev pub ComesBackThere : Seen → Credits → BodyPlace → Variable → Type 0
+ComesBackThere seen credits b v =
+    ComesBackBy seen.known.edition (paths_of seen (promises_in no_calls credits b.at) b)
+
+-- so it is, and the body's paths keep the call of the variable, by what is known of functions
+abbrev pub KeepsThere : (Callee → ℕ → Bool) → Seen → Credits → BodyPlace → Variable → Type 0
+KeepsThere calls seen credits b v =
+    ComesBackBy seen.known.edition (paths_of seen (promises_in calls credits b.at) b)
+    × KeepsCall (paths_of seen (promises_in calls credits b.at) b) v
+
 -- the paths of the claim's function keep it, by what is known of functions
 pub record KeepsClaim (files : List FileWithCredits) (calls : Callee → ℕ → Bool) (c : Claim) : Type 0 where
   pub file : FileWithCredits
   pub body : BodyPlace
   pub variable : Variable
   pub is_claim : IsClaimOf files c file body variable
-  pub keeps : KeepsCall (paths_of file.seen (promises_in calls file.credits body.at) body) variable
+  pub keeps : KeepsThere calls file.seen file.credits body variable
 
 -- each is a claim of the package
 pub record AreClaims (files : List FileWithCredits) (claims : List Claim) : Type 0 where

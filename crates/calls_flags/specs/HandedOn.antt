@@ -8,7 +8,7 @@ use Rattle.calls_flags.specs.declared.told_file.ToldFile.{ToldFile}
 use Rattle.events.specs.declared.told.SiteEvent.{SiteEvent}
 use Rattle.events.specs.declared.told.Told.{Told}
 use Rattle.lists.specs.ListViews.{items_at}
-use Rattle.meaning.specs.Uses.{Callee, Event, pass, defer_pass, lend, Seen}
+use Rattle.meaning.specs.Uses.{Callee, Work, go_call, go_pass, go_literal, Event, pass, defer_pass, lend, go, Seen}
 use Rattle.meaning_reports.specs.UsedImports.{HandsThere}
 use Rattle.tracked_rows.specs.EventViews.{event_view}
 
@@ -19,10 +19,16 @@ is_path path (Some its) = bytes_eq its path
 abbrev pub is_of_path : List ℕ → Callee → Bool
 is_of_path path f = is_path path f.path
 
+abbrev pub work_hands : List ℕ → Work → Bool
+work_hands path (go_call u) = false
+work_hands path (go_pass f xs) = is_of_path path f
+work_hands path (go_literal literal) = false
+
 abbrev pub event_hands : List ℕ → Event → Bool
 event_hands path (pass u f k) = is_of_path path f
 event_hands path (defer_pass u f k) = is_of_path path f
 event_hands path (lend v f k) = is_of_path path f
+event_hands path (go work) = work_hands path work
 event_hands path e = false
 
 abbrev pub body_hands : List ℕ → List SiteEvent → Bool

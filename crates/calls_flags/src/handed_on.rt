@@ -24,8 +24,10 @@ fn event_hands(event: &Event<'_>, path: &str) -> bool
     ensures { result ≡ event_hands path.now (event_view event.now) }
 {
     match event {
-        Event::Pass { callee, .. } | Event::DeferPass { callee, .. } | Event::Lend { callee, .. } =>
-            is_of_path(*callee, path),
+        Event::Pass { callee, .. }
+        | Event::DeferPass { callee, .. }
+        | Event::Lend { callee, .. }
+        | Event::GoPass { callee, .. } => is_of_path(*callee, path),
         Event::Obtain { .. }
         | Event::ObtainKept { .. }
         | Event::Renew { .. }
@@ -43,6 +45,8 @@ fn event_hands(event: &Event<'_>, path: &str) -> bool
         | Event::DeferWait { .. }
         | Event::Make { .. }
         | Event::DeferLiteral { .. }
+        | Event::GoCall { .. }
+        | Event::GoLiteral { .. }
         | Event::Return { .. } => false,
     }
 }

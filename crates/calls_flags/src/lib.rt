@@ -14,7 +14,7 @@ mod told_file;
 pub use claims::{Claim, find_claims, function_name};
 pub use file_bodies::{FileBodies, bodies_of_file, bodies_of_files, told_bodies};
 pub use handed_on::{files_are_handed, files_hand, handed_is_used};
-pub use keeping::keeps_claim;
+pub use keeping::{claim_comes_back, keeps_claim};
 pub use known_calls::KnownCalls;
 pub use rounds::{called_by, find_called};
 pub use told_file::{Telling, ToldFile, is_walked, tell_at, tell_files};

@@ -6,7 +6,7 @@ use Rattle.std.specs.Prelude.{ℕ, ◌+◌, Bool, false, ◌||◌, if◌then◌e
 use Rattle.std.specs.List.{list_any}
 use Rattle.meaning.specs.Declarations.{declaration_of_use}
 use Rattle.meaning.specs.FunctionFacts.{Meanings, context_path, is_of}
-use Rattle.meaning.specs.Mentions.{Named, Mark, mentions, of_fields, defers_literal, returns, opens, closes, marks_by, file_marks}
+use Rattle.meaning.specs.Mentions.{Named, Mark, mentions, of_fields, runs_literal, returns, opens, closes, marks_by, file_marks}
 use Rattle.meaning.specs.OuterBlocks.{PackageNames}
 use Rattle.meaning_reports.specs.Loaded.{LoadedPackage, package_names, trees_of}
 use Rattle.tree.specs.declared.edition.Edition.TheVariants.{First}
@@ -24,7 +24,7 @@ is_cause_name means n =
 abbrev pub mark_mentions : Meanings → Mark → Bool
 mark_mentions means (mentions m) = is_cause_name means m.named
 mark_mentions means (of_fields site m) = false
-mark_mentions means (defers_literal site at) = false
+mark_mentions means (runs_literal moment site at) = false
 mark_mentions means (returns at es) = false
 mark_mentions means (opens b) = false
 mark_mentions means closes = false

@@ -31,7 +31,7 @@ fn mark_mentions(names: &Names<'_>, file: usize, mark: Mark<'_, '_>) -> bool
     match mark {
         Mark::Mentions(mention) => is_cause_name(names, file, mention.named),
         Mark::OfFields(_, _)
-        | Mark::DefersLiteral(_, _)
+        | Mark::RunsLiteral(_, _, _)
         | Mark::Returns(_, _)
         | Mark::Opens(_)
         | Mark::Closes => false,

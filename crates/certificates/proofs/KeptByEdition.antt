@@ -11,13 +11,14 @@ use Rattle.meaning.specs.BodyEvents.{mark_events, sites_of, seen_file}
 use Rattle.meaning.specs.Classes.{Promises}
 use Rattle.meaning.specs.Code.{Occurrence}
 use Rattle.meaning.specs.Kept.{Element, field_value, holder, kept_in, kept_element, role_fields, object_kind_of, keeps_there}
-use Rattle.meaning.specs.Mentions.{BodyPlace, Mention, Mark, mentions, of_fields, defers_literal, returns, opens, closes, is_found, is_of_fields, marks_by, file_marks}
+use Rattle.meaning.specs.Mentions.{BodyPlace, Mention, Mark, mentions, of_fields, runs_literal, returns, opens, closes, is_found, is_of_fields, marks_by, file_marks}
 use Rattle.meaning.specs.Tracked.{Known, has_field, some_keep, declared_by, Placed, outer, placed}
-use Rattle.meaning.specs.Uses.{Seen, Event, other, obtain, obtain_kept, renew, keep, call_kept, defer_kept, give, give_field, clear, call, defer_call, pass, defer_pass, lend, start, try, wait, defer_wait, make, defer_literal, return_event}
+use Rattle.meaning.specs.Uses.{Seen, Event, other, obtain, obtain_kept, renew, keep, call_kept, defer_kept, give, give_field, clear, call, defer_call, pass, defer_pass, lend, start, try, wait, defer_wait, make, defer_literal, go, return_event}
 use Rattle.meaning_packages.specs.PathFaults.{paths_of}
 use Rattle.meaning_runs.proofs.EventSources.{of_body, marked}
 use Rattle.meaning_runs.proofs.KeptEvents.{IsOfObject, by_renew, by_call, by_deferred, by_give, by_keep, by_outer, by_obtaining, by_gift}
 use Rattle.meaning_runs.proofs.MentionEvents.{is_told_of_mention, variable_fits, mention_events_fit}
+use Rattle.meaning_runs.proofs.SentEvents.{literal_event_fits}
 use Rattle.tree.specs.Syntax.{SourceFile}
 use Rattle.tree.specs.declared.edition.Edition.{Edition}
 use Rattle.tree.specs.declared.edition.Edition.TheVariants.{First, Second}
@@ -46,6 +47,7 @@ told_keeps_none (wait g) h = refl
 told_keeps_none (defer_wait g) h = refl
 told_keeps_none (make u state) h = refl
 told_keeps_none (defer_literal at) h = refl
+told_keeps_none (go work) h = refl
 told_keeps_none (return_event handed) h = refl
 
 nothing_of : {A B : Type 0} (f : A → List B) → ((x : A) → f x ≡ []) → (xs : List A) → flat_map f xs ≡ []
@@ -77,8 +79,8 @@ module _ (seen : Seen) (none : (f : List ℕ) → has_field seen.known.fields f 
 
   of_mention : (e : Event) → Contains (mark_events seen bodies (mentions m)) e → keeps e ≡ false
   of_mention =
-      mention_events_fit (λ e. keeps e ≡ false) seen bodies m (λ v. refl) of_object
-      (variable_fits (λ e. keeps e ≡ false) seen bodies m (λ l is e told own. told_keeps_none e told))
+      mention_events_fit (λ e. keeps e ≡ false) seen bodies m (λ v. refl) of_object (λ e sent. ap keeps sent.is_event)
+      (variable_fits (λ e. keeps e ≡ false) seen bodies m (λ second v. refl) (λ l is e told own. told_keeps_none e told))
 
 one_event : (x : Event) → keeps x ≡ false → (e : Event) → Contains (x ∷ []) e → keeps e ≡ false
 one_event x is e h =
@@ -97,7 +99,8 @@ module _ (seen : Seen) (none : (f : List ℕ) → has_field seen.known.fields f 
       → keeps e ≡ false
   by_mark bodies (mentions m) unasked e h = of_mention seen none bodies m e h
   by_mark bodies (of_fields site m) unasked e h = absurd (true≢false unasked)
-  by_mark bodies (defers_literal site at) unasked e h = one_event (defer_literal at) refl e h
+  by_mark bodies (runs_literal moment site at) unasked e h =
+      literal_event_fits (λ x. keeps x ≡ false) seen.known.edition moment at refl refl e h
   by_mark bodies (returns at es) unasked e h = one_event _ refl e h
   by_mark bodies (opens b) unasked e h = absurd (contains_nil e h)
   by_mark bodies closes unasked e h = absurd (contains_nil e h)
@@ -168,9 +171,9 @@ places_unasked bodies (mentions m ∷ ms) all p h =
 places_unasked bodies (of_fields site m ∷ ms) all p h =
     first_or_later (of_fields site m) ms all bodies (placed bodies ms) p
     (places_unasked bodies ms (rest (of_fields site m) ms all) p) h
-places_unasked bodies (defers_literal site at ∷ ms) all p h =
-    first_or_later (defers_literal site at) ms all bodies (placed bodies ms) p
-    (places_unasked bodies ms (rest (defers_literal site at) ms all) p) h
+places_unasked bodies (runs_literal moment site at ∷ ms) all p h =
+    first_or_later (runs_literal moment site at) ms all bodies (placed bodies ms) p
+    (places_unasked bodies ms (rest (runs_literal moment site at) ms all) p) h
 places_unasked bodies (returns at es ∷ ms) all p h =
     first_or_later (returns at es) ms all bodies (placed bodies ms) p
     (places_unasked bodies ms (rest (returns at es) ms all) p) h

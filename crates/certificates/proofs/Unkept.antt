@@ -1,6 +1,7 @@
 -- Where no event keeps anything, no class is kept.
 use Rattle.std.proofs.Common.{◌≡◌, ℕ, ◌/◌, ◌%◌, ◌<◌, Bool, true, false, if◌then◌else◌, [], ◌∷◌, Option, Some, None, refl, subst, arith, true≢false, inl, inr}
 use Rattle.std.specs.Prelude.{◌==◌, ◌&&◌, slice_get}
+use Rattle.std.specs.List.{list_any}
 use Rattle.std.proofs.lemmas.Bool.{cases_lt, eq-eqb}
 use Rattle.bodies.specs.Carried.{IsReached, starts, goes}
 use Rattle.bodies.specs.Masks.{is_set}
@@ -8,9 +9,9 @@ use Rattle.certificates.proofs.ListsToNodes.{only}
 use Rattle.certificates.specs.LeastLaws.{keeps}
 use Rattle.flow.specs.Walks.{Graph}
 use Rattle.meaning.specs.BodyEvents.{VariableRole, own_parameter, own_receiver, declared_in_body, captured}
-use Rattle.meaning.specs.Classes.{Promises, CancelClass, unset, opened, kept, safe, pending, entry_cancel, change_cancel, left_to, ended, started, given_back, settled_from_kept, settled_from_open}
+use Rattle.meaning.specs.Classes.{Promises, CancelClass, unset, opened, kept, safe, pending, entry_cancel, change_cancel, left_to, ended, started, given_back, settled_from_kept, settled_from_open, waited_over, taken_over}
 use Rattle.meaning.specs.Code.{Occurrence}
-use Rattle.meaning.specs.Uses.{Event, other, obtain, obtain_kept, renew, keep, call_kept, defer_kept, give, give_field, clear, call, defer_call, pass, defer_pass, lend, start, try, wait, defer_wait, make, defer_literal, return_event}
+use Rattle.meaning.specs.Uses.{Work, go_call, go_pass, go_literal, Event, other, obtain, obtain_kept, renew, keep, call_kept, defer_kept, give, give_field, clear, call, defer_call, pass, defer_pass, lend, start, try, wait, defer_wait, make, defer_literal, go, return_event}
 
 abbrev pub is_kept_class : CancelClass → Bool
 is_kept_class unset = false
@@ -69,6 +70,20 @@ given_unkept kept h = h
 given_unkept safe h = refl
 given_unkept (pending g) h = refl
 
+waited_unkept : (p : Promises) (literal : ℕ) (k : CancelClass) → IsUnkept k → IsUnkept (waited_over p literal k)
+waited_unkept p literal unset h = refl
+waited_unkept p literal opened h = refl
+waited_unkept p literal kept h = h
+waited_unkept p literal safe h = refl
+waited_unkept p literal (pending g) h = if_unkept (p.credits literal g) safe (pending g) refl refl
+
+taken_unkept : (p : Promises) (v : ℕ) (work : Work) (k : CancelClass) → IsUnkept k → IsUnkept (taken_over p v work k)
+taken_unkept p v (go_call u) k h = if_unkept (u == v) safe k refl h
+taken_unkept p v (go_pass f xs) k h =
+    if_unkept (list_any (λ x. (x.number == v) && p.calls f x.position) xs) safe k refl h
+taken_unkept p v (go_literal literal) k h =
+    if_unkept (p.credits literal v) safe (waited_over p literal k) refl (waited_unkept p literal k h)
+
 change_unkept : (p : Promises) (v : ℕ) (e : Event) (k : CancelClass) → keeps e ≡ false → IsUnkept k
     → IsUnkept (change_cancel p v e k)
 change_unkept p v other k none h = h
@@ -92,6 +107,7 @@ change_unkept p v (wait g) k none h = ended_unkept g k h
 change_unkept p v (defer_wait g) k none h = h
 change_unkept p v (make g state) k none h = ended_unkept g.number k h
 change_unkept p v (defer_literal literal) k none h = if_unkept (p.credits literal v) safe k refl h
+change_unkept p v (go work) k none h = taken_unkept p v work k h
 change_unkept p v (return_event handed) k none h = h
 
 entry_unkept : (role : VariableRole) → IsUnkept (entry_cancel role)

@@ -8,7 +8,7 @@ use Rattle.std.proofs.lemmas.Bool.{false≢true, and_parts, and_from, or_cases, 
 use Rattle.meaning.specs.Code.{Occurrence}
 use Rattle.meaning.specs.FunctionFacts.{VariableKind, cancel, group}
 use Rattle.meaning.specs.Tracked.{GroupState, live}
-use Rattle.meaning.specs.Uses.{VariableAt, Handed, Event, other, obtain, obtain_kept, renew, keep, call_kept, defer_kept, give, give_field, clear, call, defer_call, pass, defer_pass, lend, start, try, wait, defer_wait, make, defer_literal, return_event, is_cancel, is_group}
+use Rattle.meaning.specs.Uses.{VariableAt, Handed, Event, other, obtain, obtain_kept, renew, keep, call_kept, defer_kept, give, give_field, clear, call, defer_call, pass, defer_pass, lend, start, try, wait, defer_wait, make, defer_literal, go, return_event, is_cancel, is_group}
 use Rattle.meaning.specs.BodyEvents.{Variable, too_many_faults}
 use Rattle.meaning.specs.Classes.{CancelClass, opened, kept, pending, entry_cancel, change_cancel, in_state, entry_group, change_group}
 use Rattle.meaning_packages.specs.Credits.{is_live}
@@ -82,6 +82,7 @@ starts_so groups (wait g) among = refl
 starts_so groups (defer_wait g) among = refl
 starts_so groups (make u state) among = refl
 starts_so groups (defer_literal literal) among = refl
+starts_so groups (go work) among = refl
 starts_so groups (return_event handed) among = refl
 
 so_started : (groups : List ℕ) (e : Event) → starts_among groups e ≡ true → StartsAmong groups e
@@ -479,6 +480,7 @@ module _ (b : CheckedBody) (states : List (List ℕ)) where
     fault_is (wait g) i v there h = absurd (false≢true h)
     fault_is (defer_wait g) i v there h = absurd (false≢true h)
     fault_is (defer_literal l) i v there h = absurd (false≢true h)
+    fault_is (go work) i v there h = absurd (false≢true h)
 
     abbrev claim_test : Variable → ℕ → Bool
     claim_test v i = is_cancel (Some v.kind) && is_uncalled vs (cancels i node) lives

@@ -7,10 +7,10 @@ use Rattle.std.proofs.lemmas.Bool.Decides.{Decides-eqb}
 use Rattle.std.proofs.lemmas.List.{take_all, take_more}
 use Rattle.std.proofs.lemmas.Option.{none-some, same_Some, get_or_from_slice_get, slice_get_within}
 use Rattle.meaning.specs.Mentions.{BodyPlace}
-use Rattle.meaning.specs.Uses.{Seen}
+use Rattle.meaning.specs.Uses.{Seen, goes_off}
 use Rattle.meaning.specs.BodyEvents.{bodies_of, unfollowed_faults}
 use Rattle.meaning_packages.specs.PathFaults.{paths_of}
-use Rattle.meaning_packages.specs.Credits.{body_at, Credits, begun_after, no_calls, promises_in, Settles, IsCredited}
+use Rattle.meaning_packages.specs.Credits.{body_at, Credits, begun_after, no_calls, promises_in, Settles, MayComeBack, IsCredited}
 use Rattle.credits.specs.FoundCredits.{IsSettledBy, SettlesBody, AreFoundBut}
 use Rattle.credits.proofs.BodiesByPlace.{none_of_more, is_first, is_behind}
 
@@ -27,6 +27,9 @@ module _ (seen : Seen) where
     is_of_body = h.is_of_body;
     is_captured = h.is_captured;
     is_it = h.is_it;
+    binds_none = h.binds_none;
+    comes_back = subst (λ c. MayComeBack seen.known.edition (goes_off h.body.literal)
+        (paths_of seen (record { calls = no_calls; credits = c }) h.body)) same h.comes_back;
     settles = subst (λ c. Settles (paths_of seen (record { calls = no_calls; credits = c }) h.body) h.variable) same h.settles;
   }
 
@@ -46,25 +49,34 @@ module _ (seen : Seen) where
   credited_there credits b number is_there = (
     λ h. record {
       body = b;
-      variable = h.settles.variable;
+      variable = h.relied.settles.variable;
       is_there = is_there;
       is_followed = h.is_followed;
-      is_of_body = h.settles.is_of_body;
-      is_captured = h.settles.is_captured;
-      is_it = h.settles.is_it;
-      settles = h.settles.settles;
+      is_of_body = h.relied.settles.is_of_body;
+      is_captured = h.relied.settles.is_captured;
+      is_it = h.relied.settles.is_it;
+      binds_none = h.relied.binds_none;
+      comes_back = h.relied.comes_back;
+      settles = h.relied.settles.settles;
     },
-    λ h. record {
-      is_followed = subst (λ x. unfollowed_faults seen x ≡ []) (same_Some h.body b (sym h.is_there ∙ is_there)) h.is_followed;
-      settles = record {
-        variable = h.variable;
-        is_of_body = h.is_of_body;
-        is_captured = h.is_captured;
-        is_it = h.is_it;
-        settles = subst (λ x. Settles (paths_of seen (promises_in no_calls credits b.at) x) h.variable)
-            (same_Some h.body b (sym h.is_there ∙ is_there)) h.settles;
-      };
-    },
+    λ h.
+        let same : h.body ≡ b = same_Some h.body b (sym h.is_there ∙ is_there) in
+        let promised = promises_in no_calls credits b.at in
+        record {
+          is_followed = subst (λ x. unfollowed_faults seen x ≡ []) same h.is_followed;
+          relied = record {
+            binds_none = h.binds_none;
+            comes_back = subst (λ (x : BodyPlace). MayComeBack seen.known.edition (goes_off x.literal)
+                (paths_of seen promised x)) same h.comes_back;
+            settles = record {
+              variable = h.variable;
+              is_of_body = h.is_of_body;
+              is_captured = h.is_captured;
+              is_it = h.is_it;
+              settles = subst (λ x. Settles (paths_of seen promised x) h.variable) same h.settles;
+            };
+          };
+        },
   )
 
   -- the next body, from the last on

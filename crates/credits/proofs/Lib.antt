@@ -6,3 +6,4 @@ mod SearchedPaths
 mod BodyVariables
 pub mod OwnGroups
 pub mod SettledBodies
+pub mod ReliedOn

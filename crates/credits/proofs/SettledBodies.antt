@@ -16,8 +16,8 @@ use Rattle.bodies.specs.declared.graph.BodyGraph.{BodyGraph as KeptGraph}
 use Rattle.events.specs.VariableViews.{variable_view}
 use Rattle.credits.specs.CreditViews.{has, is_among, SettlesThese}
 use Rattle.credits.specs.declared.table.Credits.{Credits as KeptCredits}
-use Rattle.credits.specs.SettledVariables.{is_captured, captures_any, SettlesCaptured}
-use Rattle.credits.specs.FoundCredits.{body_paths, IsSettledBy, SettlesBody}
+use Rattle.credits.specs.SettledVariables.{is_captured, captures_any}
+use Rattle.credits.specs.FoundCredits.{IsReliedOn, IsSettledBy, SettlesBody}
 
 captures : (vs : List Variable) (v : Variable) → Contains vs v → v.role ≡ captured → captures_any vs ≡ true
 captures [] v h e = absurd (contains_nil v h)
@@ -58,7 +58,7 @@ module _ (file : ℕ) (seen : Seen) (b : BodyPlace) (body : KeptBody) (tells : T
     λ bad. absurd (false≢true bad),
     λ h. absurd (false≢true
         (sym none ∙ ap captures_any tells.are_variables
-        ∙ captures (variables_of seen b.at) h.settles.variable h.settles.is_of_body h.settles.is_captured)),
+        ∙ captures (variables_of seen b.at) h.relied.settles.variable h.relied.settles.is_of_body h.relied.settles.is_captured)),
   )
 
   pub no_graph : body.graph ≡ None → (is_among [] number ≡ true) ↔ IsSettledBy seen credits b number
@@ -66,18 +66,18 @@ module _ (file : ℕ) (seen : Seen) (b : BodyPlace) (body : KeptBody) (tells : T
     λ bad. absurd (false≢true bad),
     λ h. absurd (false≢true
         (ap is_some (sym none) ∙ tells.has_graph
-        ∙ paths_there seen b h.settles.variable h.settles.is_of_body h.is_followed)),
+        ∙ paths_there seen b h.relied.settles.variable h.relied.settles.is_of_body h.is_followed)),
   )
 
   pub of_graph : (kept : KeptGraph) → body.graph ≡ Some kept → (is_it : Type 0)
-      → is_it ↔ SettlesCaptured (body_paths seen credits b) number
+      → is_it ↔ IsReliedOn seen credits b number
       → is_it ↔ IsSettledBy seen credits b number
-  of_graph kept is is_it settled = (
+  of_graph kept is is_it relied = (
     λ e. record {
       is_followed = followed_there seen b (sym tells.has_graph ∙ ap is_some is);
-      settles = settled.0 e;
+      relied = relied.0 e;
     },
-    λ h. settled.1 h.settles,
+    λ h. relied.1 h.relied,
   )
 
 -- what is told of a body's offset is told of the body

@@ -2,22 +2,22 @@
 
 ghost use Rattle.std.specs.Prelude.{◌≡◌, ◌↔◌, ℕ, true, IfOk, OnOk, Some};
 ghost use Rattle.bodies.specs.Bodies.{TellsBody, TellBodies};
-ghost use Rattle.credits.specs.FoundCredits.{body_paths, IsSettledBy, SettlesBody};
+ghost use Rattle.credits.specs.FoundCredits.{IsReliedOn, IsSettledBy, SettlesBody};
 ghost use Rattle.credits.specs.CreditViews.{has, is_among};
-ghost use Rattle.credits.specs.SettledVariables.{SettlesCaptured};
 ghost use Rattle.meaning.specs.Mentions.{BodyPlace};
 ghost use Rattle.meaning.specs.Uses.{Seen};
 ghost use Rattle.meaning_packages.specs.Credits.{AreFullCredits};
 
 use crate::reliance::NoCalls;
+use crate::relied::{may_come_back, unbound};
 use crate::search::search_body;
 use crate::settled::{captures_any, settled_captured};
 use crate::table::Credits;
 use bodies::{Body, BodyGraph};
 use std::alloc::{AllocError, Global};
 
-/// The numbers of the variables that a body of that graph captures and settles, where it relies on the credits of the
-/// literals after it.
+/// The numbers of the variables for which a body of that graph is relied on, where it relies on the credits of the
+/// literals after it: it captures and settles them, it doesn't bind them, and it comes back, if it must.
 fn settled_with<'a>(
     alloc: Global,
     body: &Body<'_, 'a>,
@@ -26,13 +26,24 @@ fn settled_with<'a>(
 ) -> Result<Vec<u32>, AllocError>
     ensures { IfOk result (λ numbers. (file : ℕ) (seen : Seen) (b : BodyPlace) → TellsBody file seen b body.now
         → body.now.graph ≡ Some kept.now → (number : ℕ)
-        → (is_among numbers.items number ≡ true) ↔ SettlesCaptured (body_paths seen (has credits.now) b) number) }
+        → (is_among numbers.items number ≡ true) ↔ IsReliedOn seen (has credits.now) b number) }
 {
     let solution = search_body(alloc, body, kept, &NoCalls, credits)?;
-    settled_captured(alloc, &kept.graph, &body.variables, &solution)
+    let literal = body.place.literal;
+    if !may_come_back(
+        body.edition,
+        literal,
+        &kept.graph,
+        &body.variables,
+        &solution,
+    ) {
+        return Ok(Vec::new(alloc));
+    }
+    let numbers = settled_captured(alloc, &kept.graph, &body.variables, &solution)?;
+    unbound(alloc, body.bound, &numbers)
 }
 
-/// The numbers of the variables that a body captures and settles, where it relies on the credits of the literals after
+/// The numbers of the variables for which a body is relied on, where it relies on the credits of the literals after
 /// it; none, where it has too many variables.
 fn settled_by<'a>(
     alloc: Global,

@@ -6,12 +6,14 @@
 
 mod found;
 mod reliance;
+mod relied;
 mod search;
 mod settled;
 mod table;
 
 pub use found::find_credits;
 pub use reliance::{Calls, NoCalls, Reliance};
+pub use relied::{asks_return, may_come_back, unbound};
 pub use search::search_body;
 pub use settled::{captures_any, is_captured, settled_captured};
 pub use table::Credits;

@@ -1,3 +1,4 @@
+pub mod Bounds
 pub mod MarkEvents
 pub mod MarksTold
 pub mod Grown

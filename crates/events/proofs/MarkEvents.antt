@@ -1,11 +1,11 @@
 -- Events of marks: those that stand by themselves, and then calls behind a row with an error.
 use Rattle.std.proofs.Common.{◌≡◌, ℕ, ◌+◌, ◌<◌, ◌≤◌, Bool, true, false, List, [], ◌∷◌, ◌++◌, length, get_or, drop, map, refl, sym, ap, ◌∙◌, append_assoc}
-use Rattle.std.proofs.lemmas.List.{at_drop_all}
+use Rattle.std.proofs.lemmas.List.{append-nil, at_drop_all}
 use Rattle.tree.proofs.Depths.{drop_item}
-use Rattle.meaning.specs.Mentions.{BodyPlace, Mark, mentions, of_fields, defers_literal, returns, opens, closes}
+use Rattle.meaning.specs.Mentions.{BodyPlace, Mark, mentions, of_fields, runs_literal, returns, opens, closes}
 use Rattle.meaning.specs.Uses.{Seen, Event, call}
-use Rattle.meaning.specs.BodyEvents.{mark_events}
-use Rattle.uses.specs.OutcomeViews.{plain_events, error_calls}
+use Rattle.meaning.specs.BodyEvents.{literal_events, mark_events}
+use Rattle.uses.specs.OutcomeViews.{plain_events, error_calls, sent_part}
 use Rattle.tracked_rows.specs.declared.event.Event.{Event as KeptEvent}
 use Rattle.tracked_rows.specs.EventViews.{event_view}
 use Rattle.events.specs.ToldViews.{if_there}
@@ -13,10 +13,10 @@ use Rattle.kept_events.specs.KeptEventViews.{kept_part}
 use Rattle.events.proofs.Grown.{grows, grown}
 
 pub events_split : (s : Seen) (bs : List BodyPlace) (m : Mark)
-    → plain_events s bs m ++ (error_calls s m ++ kept_part s bs m) ≡ mark_events s bs m
+    → plain_events s bs m ++ (error_calls s m ++ (kept_part s bs m ++ sent_part s bs m)) ≡ mark_events s bs m
 events_split s bs (mentions m) = refl
-events_split s bs (of_fields site m) = refl
-events_split s bs (defers_literal site at) = refl
+events_split s bs (of_fields site m) = append-nil (kept_part s bs (of_fields site m))
+events_split s bs (runs_literal moment site at) = append-nil (literal_events s.known.edition moment at)
 events_split s bs (returns at es) = refl
 events_split s bs (opens b) = refl
 events_split s bs closes = refl
@@ -37,6 +37,13 @@ pub three_there : (b : Bool) (before one two after xs ys zs : List Event) → on
     → two ≡ one ++ if_there b ys → after ≡ two ++ if_there b zs → after ≡ before ++ if_there b (xs ++ (ys ++ zs))
 three_there b before one two after xs ys zs first second third =
     then_more b before one after xs (ys ++ zs) first (then_more b one two after ys zs second third)
+
+-- and others
+pub four_there : (b : Bool) (before one two three after ws xs ys zs : List Event) → one ≡ before ++ if_there b ws
+    → two ≡ one ++ if_there b xs → three ≡ two ++ if_there b ys → after ≡ three ++ if_there b zs
+    → after ≡ before ++ if_there b (ws ++ (xs ++ (ys ++ zs)))
+four_there b before one two three after ws xs ys zs first second third fourth =
+    then_more b before one after ws (xs ++ (ys ++ zs)) first (three_there b one two three after xs ys zs second third fourth)
 
 -- one event more, in a loop
 pub one_more : (b : Bool) (before after : List Event) (e : Event) (rest whole : List Event)

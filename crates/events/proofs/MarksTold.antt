@@ -5,7 +5,7 @@ use Rattle.tree.proofs.Depths.{drop_item}
 use Rattle.mentions.specs.declared.mark.BodyPlace.{BodyPlace as KeptBody}
 use Rattle.mentions.specs.declared.mark.Mark.{Mark as KeptMark}
 use Rattle.mentions.specs.MarkViews.{body_view, mark_view, marks_view}
-use Rattle.meaning.specs.Mentions.{BodyPlace, Mark, mentions, of_fields, defers_literal, returns, opens, closes}
+use Rattle.meaning.specs.Mentions.{BodyPlace, Mark, mentions, of_fields, runs_literal, returns, opens, closes}
 use Rattle.meaning.specs.Tracked.{Placed, placed}
 use Rattle.meaning.specs.Uses.{Seen, is_body, is_outside}
 use Rattle.meaning.specs.KeepingFields.{fields_kept_there}
@@ -13,7 +13,9 @@ use Rattle.meaning.specs.BodyEvents.{by_place, opened_by, opened_in, mark_faults
 use Rattle.tracked.specs.LocalViews.{bodies_at}
 use Rattle.uses.specs.OutcomeViews.{fault_view}
 use Rattle.events.specs.declared.told.Told.{Told}
-use Rattle.events.specs.ToldViews.{faults_at, events_in, has_panic, if_there, panics_in, TellsNothing, AddsMark, TellsFile}
+use Rattle.events.specs.ToldViews.{faults_at, events_in, has_panic, has_bound, is_second, binds_in, if_there, panics_in, TellsNothing, AddsMark, TellsFile}
+use Rattle.meaning_packages.specs.Credits.{binds_there}
+use Rattle.events.proofs.Bounds.{binds_of}
 use Rattle.events.proofs.Grown.{then_or_none, nothing_there, grows, grown, holds_on, holds_at_end}
 
 -- the fields that these marks keep
@@ -26,6 +28,7 @@ pub record TellsSoFar (s : Seen) (left all : List Placed) (told : Told) : Type 0
   pub faults : (body : ℕ) → faults_at told.faults body ++ faults_of s body left ≡ faults_of s body all
   pub events : (body at : ℕ) → events_in told.events body at ++ events_at s body left at ≡ events_at s body all at
   pub panics : (body at : ℕ) → (has_panic told.panics body at || panics_in s.known body at left) ≡ panics_in s.known body at all
+  pub bound : (body number : ℕ) → (has_bound told.bound body number || binds_in s body number left) ≡ binds_in s body number all
   pub keeping : map (λ (n : Bor (List ℕ)). n.now) told.keeping.items ++ fields_among s left ≡ fields_among s all
   pub opened : map body_view told.opened.items ++ opened_in left ≡ opened_in all
   pub edition : told.edition ≡ s.known.edition
@@ -37,7 +40,7 @@ module _ (s : Seen) (bs : List BodyPlace) where
   unfolding placed
   outer-mark (mentions m) ms = then_or_none (is_outside bs) _ _
   outer-mark (of_fields site m) ms = then_or_none (is_outside bs) _ _
-  outer-mark (defers_literal site at) ms = then_or_none (is_outside bs) _ _
+  outer-mark (runs_literal moment site at) ms = then_or_none (is_outside bs) _ _
   outer-mark (returns at es) ms = then_or_none (is_outside bs) _ _
   outer-mark (opens b) ms = then_or_none (is_outside (b ∷ bs)) (mark_faults s (b ∷ bs) (opens b)) _
   outer-mark closes ms = nothing_there (is_outside (bodies_at bs closes)) _
@@ -48,7 +51,7 @@ module _ (s : Seen) (bs : List BodyPlace) where
   unfolding placed
   faults-mark body (mentions m) ms = then_or_none (is_body body bs) _ _
   faults-mark body (of_fields site m) ms = then_or_none (is_body body bs) _ _
-  faults-mark body (defers_literal site at) ms = then_or_none (is_body body bs) _ _
+  faults-mark body (runs_literal moment site at) ms = then_or_none (is_body body bs) _ _
   faults-mark body (returns at es) ms = then_or_none (is_body body bs) _ _
   faults-mark body (opens b) ms = then_or_none (is_body body (b ∷ bs)) (mark_faults s (b ∷ bs) (opens b)) _
   faults-mark body closes ms = nothing_there (is_body body (bodies_at bs closes)) _
@@ -60,7 +63,7 @@ module _ (s : Seen) (bs : List BodyPlace) where
   unfolding placed
   events-mark body at (mentions m) ms = then_or_none (is_body body bs && is_site (mentions m) at) _ _
   events-mark body at (of_fields site m) ms = then_or_none (is_body body bs && is_site (of_fields site m) at) _ _
-  events-mark body at (defers_literal site literal) ms = then_or_none (is_body body bs && is_site (defers_literal site literal) at) _ _
+  events-mark body at (runs_literal moment site literal) ms = then_or_none (is_body body bs && is_site (runs_literal moment site literal) at) _ _
   events-mark body at (returns site es) ms = then_or_none (is_body body bs && is_site (returns site es) at) _ _
   events-mark body at (opens b) ms = then_or_none (is_body body (b ∷ bs) && is_site (opens b) at) [] _
   events-mark body at closes ms = nothing_there (is_body body (bodies_at bs closes) && false) _
@@ -71,17 +74,29 @@ module _ (s : Seen) (bs : List BodyPlace) where
   unfolding placed
   panics-mark body at (mentions m) ms = refl
   panics-mark body at (of_fields site m) ms = refl
-  panics-mark body at (defers_literal site literal) ms = refl
+  panics-mark body at (runs_literal moment site literal) ms = refl
   panics-mark body at (returns site es) ms = refl
   panics-mark body at (opens b) ms = refl
   panics-mark body at closes ms = refl
+
+  binds-mark : (body number : ℕ) (m : Mark) (ms : List Mark)
+      → binds_in s body number (placed bs (m ∷ ms))
+      ≡ ((binds_there s body number (bodies_at bs m) m && is_second s.known.edition)
+      || binds_in s body number (placed (bodies_at bs m) ms))
+  unfolding placed
+  binds-mark body number (mentions m) ms = refl
+  binds-mark body number (of_fields site m) ms = refl
+  binds-mark body number (runs_literal moment site literal) ms = refl
+  binds-mark body number (returns site es) ms = refl
+  binds-mark body number (opens b) ms = refl
+  binds-mark body number closes ms = refl
 
   opened-mark : (m : Mark) (ms : List Mark)
       → opened_in (placed bs (m ∷ ms)) ≡ opened_by m ++ opened_in (placed (bodies_at bs m) ms)
   unfolding placed
   opened-mark (mentions m) ms = refl
   opened-mark (of_fields site m) ms = refl
-  opened-mark (defers_literal site literal) ms = refl
+  opened-mark (runs_literal moment site literal) ms = refl
   opened-mark (returns site es) ms = refl
   opened-mark (opens b) ms = refl
   opened-mark closes ms = refl
@@ -92,7 +107,7 @@ module _ (s : Seen) (bs : List BodyPlace) where
   unfolding placed
   keeping-mark (mentions m) ms = refl
   keeping-mark (of_fields site m) ms = refl
-  keeping-mark (defers_literal site at) ms = refl
+  keeping-mark (runs_literal moment site at) ms = refl
   keeping-mark (returns at es) ms = refl
   keeping-mark (opens b) ms = refl
   keeping-mark closes ms = refl
@@ -106,6 +121,7 @@ module _ (s : Seen) (bs : List BodyPlace) where
     faults = λ body. grows _ _ _ _ _ _ (adds.faults body) (faults-mark body m ms) (so_far.faults body);
     events = λ body at. grows _ _ _ _ _ _ (adds.events body at) (events-mark body at m ms) (so_far.events body at);
     panics = λ body at. holds_on _ _ _ _ _ _ (adds.panics body at) (panics-mark body at m ms) (so_far.panics body at);
+    bound = λ body number. holds_on _ _ _ _ _ _ (adds.bound body number) (binds-mark body number m ms) (so_far.bound body number);
     keeping = grows _ _ _ _ _ _ adds.keeping (keeping-mark m ms) so_far.keeping;
     opened = grows _ _ _ _ _ _ adds.opened (opened-mark m ms) so_far.opened;
     edition = adds.edition ∙ so_far.edition;
@@ -117,6 +133,7 @@ tells_first s all told nothing = record {
   faults = λ body. ap (λ fs. map fault_view fs ++ faults_of s body all) (nothing.faults body);
   events = λ body at. ap (λ es. Rattle.events.specs.ToldViews.events_of_site at es ++ events_at s body all at) (nothing.events body);
   panics = λ body at. ap (λ ps. Rattle.std.specs.List.list_any (λ site. Rattle.std.specs.Prelude.nat_eq site at) ps || panics_in s.known body at all) (nothing.panics body);
+  bound = λ body number. ap (λ ns. Rattle.std.specs.List.list_any (λ n. Rattle.std.specs.Prelude.nat_eq n number) ns || binds_in s body number all) (nothing.bound body);
   keeping = ap (λ ns. map (λ (n : Bor (List ℕ)). n.now) ns ++ fields_among s all) nothing.keeping;
   opened = ap (λ bs. map body_view bs ++ opened_in all) nothing.opened;
   edition = nothing.edition;
@@ -130,6 +147,7 @@ with_opened told opened = record {
   faults = told.faults;
   events = told.events;
   panics = told.panics;
+  bound = told.bound;
   keeping = told.keeping;
   opened = opened;
 }
@@ -143,6 +161,9 @@ tells_all s all same left none told so_far opened ordered = record {
   faults = λ body. grown _ _ _ (ap (faults_of s body) none) (so_far.faults body) ∙ ap (faults_of s body) same;
   events = λ body at. grown _ _ _ (ap (λ ps. events_at s body ps at) none) (so_far.events body at) ∙ ap (λ ps. events_at s body ps at) same;
   panics = λ body at. holds_at_end _ _ _ (ap (panics_in s.known body at) none) (so_far.panics body at) ∙ ap (panics_in s.known body at) same;
+  bound = λ body number.
+      holds_at_end _ _ _ (ap (binds_in s body number) none) (so_far.bound body number) ∙ ap (binds_in s body number) same
+      ∙ binds_of s.known.edition s body number;
   keeping = grown _ _ _ (ap (fields_among s) none) so_far.keeping ∙ ap (fields_among s) same;
   opened = ordered ∙ ap by_place (grown _ _ _ (ap opened_in none) so_far.opened ∙ ap opened_in same);
   edition = so_far.edition;

@@ -9,7 +9,7 @@ use Rattle.mentions.specs.declared.mark.Mark.{Mark as KeptMark}
 use Rattle.mentions.specs.MarkViews.{body_view, mark_view, marks_view}
 use Rattle.lists.specs.declared.Lists.{Lists}
 use Rattle.events.proofs.Grown.{grows, grown}
-use Rattle.meaning.specs.Mentions.{BodyPlace, Mention, Mark, mentions, of_fields, defers_literal, returns, opens, closes}
+use Rattle.meaning.specs.Mentions.{BodyPlace, Mention, Mark, mentions, of_fields, runs_literal, returns, opens, closes}
 use Rattle.meaning.specs.Tracked.{variable_of, is_variable, Placed, placed, Local}
 use Rattle.meaning.specs.Uses.{Seen, is_of_local}
 use Rattle.meaning.specs.BodyEvents.{least, is_around, is_declared_around, occurs_in, is_captured_there, occurrence, first_occurrence}
@@ -26,7 +26,7 @@ sightings-mark : (s : Seen) (n : ℕ) (bs : List BodyPlace) (m : Mark) (ms : Lis
 unfolding placed
 sightings-mark s n bs (mentions m) ms = refl
 sightings-mark s n bs (of_fields site m) ms = refl
-sightings-mark s n bs (defers_literal site at) ms = refl
+sightings-mark s n bs (runs_literal moment site at) ms = refl
 sightings-mark s n bs (returns at es) ms = refl
 sightings-mark s n bs (opens b) ms = refl
 sightings-mark s n bs closes ms = refl
@@ -193,7 +193,7 @@ module _ (s : Seen) (n : ℕ) (l : Local) (tracked : tracked_local s (Some n) �
       ∙ one_first (is_of_local l (variable_of s.known m)) (is_around body bs) (body_sightings l.body m.named.at bs)
       m.named.at (body_first l.body m.named.at body bs)
   mark_first bs (of_fields site m) = refl
-  mark_first bs (defers_literal site at) = refl
+  mark_first bs (runs_literal moment site at) = refl
   mark_first bs (returns at es) = refl
   mark_first bs (opens b) = refl
   mark_first bs closes = refl
@@ -205,7 +205,7 @@ module _ (s : Seen) (n : ℕ) (l : Local) (tracked : tracked_local s (Some n) �
       ∙ one_captured (is_of_local l (variable_of s.known m)) (is_declared_around l.body body bs)
       (body_sightings l.body m.named.at bs) (body_captured l.body m.named.at body bs)
   mark_captured bs (of_fields site m) = refl
-  mark_captured bs (defers_literal site at) = refl
+  mark_captured bs (runs_literal moment site at) = refl
   mark_captured bs (returns at es) = refl
   mark_captured bs (opens b) = refl
   mark_captured bs closes = refl

@@ -5,7 +5,7 @@ use Rattle.std.specs.List.{list_any}
 use Rattle.std.proofs.lemmas.Bool.{ne_eqb}
 use Rattle.std.proofs.lemmas.List.{append-nil}
 use Rattle.meaning.specs.Jumps.{jumps_in}
-use Rattle.meaning.specs.Mentions.{BodyPlace, Mark, mentions, of_fields, defers_literal, returns, opens, closes}
+use Rattle.meaning.specs.Mentions.{BodyPlace, Mark, mentions, of_fields, runs_literal, returns, opens, closes}
 use Rattle.meaning.specs.OuterBlocks.{has_any}
 use Rattle.meaning.specs.Uses.{Seen, UseFault, field_faults}
 use Rattle.meaning.specs.BodyEvents.{Variable, comes_before, put_in, in_their_order, variables_of, too_many_faults, has_variables, mark_faults, unfollowed_faults}
@@ -77,7 +77,7 @@ pub faults_split : (s : Seen) (bs : List BodyPlace) (m : Mark)
     → mark_faults s bs m ≡ plain_faults s bs m ++ faults_by_variables s bs m
 faults_split s bs (mentions m) = refl
 faults_split s bs (of_fields site m) = sym (append-nil (field_faults s m))
-faults_split s bs (defers_literal site at) = refl
+faults_split s bs (runs_literal moment site at) = refl
 faults_split s bs (returns at es) = refl
 faults_split s bs (opens b) = refl
 faults_split s bs closes = refl

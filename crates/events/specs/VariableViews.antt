@@ -18,7 +18,7 @@ use Rattle.kept_events.specs.KeptEventViews.{MayKeep}
 use Rattle.tracked.specs.declared.seen.Seen.{Seen as KeptSeen}
 use Rattle.tracked.specs.LocalViews.{seen_view, Sees}
 use Rattle.meaning.specs.FunctionFacts.{VariableKind}
-use Rattle.meaning.specs.Mentions.{BodyPlace, Mark, mentions, of_fields, defers_literal, returns, opens, closes}
+use Rattle.meaning.specs.Mentions.{BodyPlace, Mark, mentions, of_fields, runs_literal, returns, opens, closes}
 use Rattle.meaning.specs.Tracked.{variable_of, is_variable, Placed, Local}
 use Rattle.meaning.specs.Uses.{Seen, found, is_tracked, UseFault}
 use Rattle.meaning.specs.BodyEvents.{lesser, VariableRole, own_parameter, own_receiver, declared_in_body, captured, Variable, role_in_own, first_in, in_their_order, variables_of, is_cancel_variable}
@@ -59,7 +59,7 @@ mark_sightings seen n bodies (mentions m) =
     if_there (is_variable (variable_of seen.known m) n)
     (local_sightings (tracked_local seen (Some n)) m.named.at bodies)
 mark_sightings seen n bodies (of_fields site m) = []
-mark_sightings seen n bodies (defers_literal site at) = []
+mark_sightings seen n bodies (runs_literal moment site at) = []
 mark_sightings seen n bodies (returns at es) = []
 mark_sightings seen n bodies (opens b) = []
 mark_sightings seen n bodies closes = []

@@ -2,6 +2,7 @@
 //! order. The definitions are those of `meaning/specs/BodyEvents.antt`.
 #![tactic(auto)]
 
+mod bound;
 mod by_variables;
 mod faults;
 mod file;

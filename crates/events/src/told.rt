@@ -11,9 +11,10 @@ ghost use Rattle.meaning.specs.BodyEvents.{is_panic, is_site};
 ghost use Rattle.meaning.specs.Uses.{call, is_body};
 ghost use Rattle.mentions.specs.MarkViews.{body_view, mark_view, mention_view, role_view};
 ghost use Rattle.tracked_rows.specs.RowViews.{known_view};
-ghost use Rattle.uses.specs.OutcomeViews.{fault_view, AddsFaults, error_calls};
+ghost use Rattle.uses.specs.OutcomeViews.{fault_view, AddsFaults, error_calls, sent_part};
 ghost use Rattle.tracked_rows.specs.EventViews.{events_view};
 
+use crate::bound::add_bound;
 use crate::by_variables::{SeenBodies, add_by_variables};
 use kept_events::{FileKept, add_mark_events, add_names};
 use lists::Lists;
@@ -22,7 +23,7 @@ use std::alloc::{AllocError, Global};
 use tracked::Seen;
 use tracked_rows::{Event, Known, is_of_universe};
 use tree::Edition;
-use uses::{UseFault, lost_at, mark_outcome};
+use uses::{UseFault, lost_at, mark_outcome, sent_at};
 
 /// An event, and the offset of its statement, spec, header or clause.
 #[derive(Drop)]
@@ -43,6 +44,9 @@ pub struct Told<'a> {
     pub events: Lists<SiteEvent<'a>>,
     /// The sites of calls of the universe's `panic` as statements.
     pub panics: Lists<u32>,
+    /// In the second edition the numbers of the locals to which the body at an offset, or a literal in it, may give
+    /// another value; one may come more than once.
+    pub bound: Lists<u32>,
     /// The fields in which the file keeps what it obtained, or gives it to others; a name may come more than once.
     pub keeping: Vec<&'a str>,
     /// The bodies: while marks are gone over in their order, and in the end in the order of their places.
@@ -60,6 +64,7 @@ impl<'a> Told<'a> {
             faults: Lists::new(alloc),
             events: Lists::new(alloc),
             panics: Lists::new(alloc),
+            bound: Lists::new(alloc),
             keeping: Vec::new(alloc),
             opened: Vec::new(alloc),
         }
@@ -116,7 +121,7 @@ fn site_of(mark: &Mark<'_, '_>) -> Option<u32>
     match *mark {
         Mark::Mentions(mention) => Some(mention.site),
         Mark::OfFields(site, _) => Some(site),
-        Mark::DefersLiteral(site, _) => Some(site),
+        Mark::RunsLiteral(_, site, _) => Some(site),
         Mark::Returns(site, _) => Some(site),
         _ => None,
     }
@@ -233,6 +238,22 @@ fn add_kept<'m, 'a>(
     add_events(alloc, bodies, mark, fresh, events)
 }
 
+/// Adds what functions under `go` get at a mark.
+fn add_sent<'m, 'a>(
+    alloc: Global,
+    seen: &Seen<'_, 'm, 'a>,
+    bodies: &[BodyPlace<'a>],
+    mark: &Mark<'m, 'a>,
+    events: &mut Lists<SiteEvent<'a>>,
+) -> Result<(), AllocError>
+    requires { Sees seen.now }
+    ensures { OnOk result (AddsEvent (map body_view bodies.now) (mark_view mark.now) (sent_part
+        (seen_view seen.now) (map body_view bodies.now) (mark_view mark.now)) events.old events.new) }
+{
+    let event = sent_at(alloc, seen, bodies, mark)?;
+    add_event(alloc, bodies, mark, event, events)
+}
+
 /// Whether it is a call of the universe's `panic` as a statement.
 fn is_panic(known: Known<'_, '_>, mention: Mention<'_, '_>) -> bool
     ensures { result ≡ is_panic (known_view known.entry) (mention_view mention.entry)
@@ -320,7 +341,9 @@ pub fn add_mark<'m, 'a>(
     add_event(alloc, bodies, mark, event, &mut told.events)?;
     add_error_calls(alloc, file.seen, bodies, mark, &mut told.events)?;
     add_kept(alloc, kept, bodies, mark, &mut told.events)?;
+    add_sent(alloc, file.seen, bodies, mark, &mut told.events)?;
     add_names(alloc, kept, bodies, mark, &mut told.keeping)?;
     add_panic(alloc, &file.seen.known, bodies, mark, &mut told.panics)?;
+    add_bound(alloc, file.seen, bodies, mark, &mut told.bound)?;
     add_opened(mark, &mut told.opened)
 }

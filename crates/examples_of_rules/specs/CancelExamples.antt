@@ -22,7 +22,7 @@ use Rattle.tree.specs.declared.edition.Edition.{Edition}
 use Rattle.tree.specs.declared.edition.Edition.TheVariants.{First, Second}
 use Rattle.tree.specs.Syntax.{no_expression, Parameters, no_parameter, named_and, unnamed_and, Statement, assignment, go_statement, defer_statement, return_statement, Function}
 use Rattle.meaning.specs.FunctionFacts.{cancel}
-use Rattle.meaning.specs.Uses.{obtain, clear, call, defer_call, pass, defer_literal, return_event, cancel_discarded, cancel_used_otherwise, bound_again, fault_at}
+use Rattle.meaning.specs.Uses.{go_call, obtain, clear, call, defer_call, pass, defer_literal, go, return_event, cancel_discarded, cancel_used_otherwise, bound_again, fault_at}
 use Rattle.meaning.specs.BodyEvents.{declared_in_body, captured}
 use Rattle.meaning.specs.TreeExamples.{doing, name, use_of, only}
 use Rattle.examples_of_rules.specs.Trees.{member, call_of, calling, block, doing_alone, literal, making, obtaining, function_of, Does, HasVariables, HasFaults}
@@ -77,7 +77,6 @@ pub record InBoth (edition : Edition) : Type 0 where
       true ∷ [])
   pub called : Does edition functions 1000 1200 (call 1103 ∷ [])
   pub deferred : Does edition functions 1000 1300 (defer_call 1103 ∷ [])
-  pub under_go : Does edition functions 1000 1400 []
   pub passed : Does edition functions 1000 1500
       (pass record { number = 1103; at = 1502 } record { path = None; name = codes "h" } 0 ∷ [])
   pub given_elsewhere : Does edition functions 1000 1600 []
@@ -94,7 +93,10 @@ pub record InBoth (edition : Edition) : Type 0 where
 pub record CancelFunctionsAreFollowed : Type 0 where
   pub in_the_first : InBoth First
   pub in_the_second : InBoth Second
-  -- under `go`, and as an argument of a function that takes none, it is only read in the second
+  -- under `go` a goroutine calls it in the second
+  pub under_go_in_the_first : Does First functions 1000 1400 []
+  pub under_go_in_the_second : Does Second functions 1000 1400 (go (go_call 1103) ∷ [])
+  -- as an argument of a function that takes none it is only read there
   pub faults_in_the_first : HasFaults First functions 1000
       (fault_at 1403 cancel_used_otherwise (codes "c") ++ (fault_at 1604 cancel_used_otherwise (codes "c")
       ++ fault_at 1800 bound_again (codes "c")))

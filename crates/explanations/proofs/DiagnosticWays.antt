@@ -7,7 +7,7 @@ use Rattle.body_ways.specs.BodyWays.{ToldWay}
 use Rattle.explanations.proofs.FirstTold.{IsFirst, first_is}
 use Rattle.explanations.proofs.ToldBodies.{variable_of_fault}
 use Rattle.explanations.specs.Explained.{TellsWay}
-use Rattle.explanations.specs.Found.{fault_of, fault_with, first_told, notes_by_ways, notes_told, path_code_of, shown, told_in, way_note}
+use Rattle.explanations.specs.Found.{fault_of, fault_with, first_told, notes_by_ways, notes_told, offsets_by_ways, offsets_told, path_code_of, shown, told_in, way_note, HasWay}
 use Rattle.explanations.specs.Ways.{ArePackageWays, IsToldOf}
 use Rattle.findings.specs.FoundEntries.{known_paths}
 use Rattle.lexer.specs.declared.source.Source.{Source}
@@ -112,6 +112,21 @@ told_notes sources ways x number fault told t is_entry e is_told is_first =
     ∙ ap (notes_told sources number)
     (ap (λ o. told_in o (slice_get ways number)) is_fault ∙ (ap (told_in (Some fault)) is_told ∙ is_first))
 
+-- and the offsets of its way
+told_offsets : (ways : List (List ToldWay)) (x : Entry) (number : ℕ) (fault : PathFault) (told : List ToldWay)
+    (t : ToldWay)
+    → x ≡ path_entry number fault
+    → IsOfPath x
+    → slice_get ways number ≡ Some told
+    → first_told fault told ≡ Some t
+    → offsets_by_ways ways x ≡ t.offsets
+told_offsets ways x number fault told t is_entry e is_told is_first =
+    let y = path_entry number fault in
+    let is_fault : fault_of y ≡ Some fault =
+    ap (option_map (fault_with y)) (code_of_path fault.code (subst IsOfPath is_entry e)) in
+    ap (offsets_by_ways ways) is_entry
+    ∙ ap offsets_told (ap (λ o. told_in o (slice_get ways number)) is_fault ∙ (ap (told_in (Some fault)) is_told ∙ is_first))
+
 -- so it tells this way, if that is one of its file
 tells_first : (ps : List LoadedPackage) (tables : Tables) (i : ℕ) (sources : List Source) (ways : List (List ToldWay))
     (d : ExplainedDiagnostic) (flags : Flags) (number : ℕ) (file : FileWithCredits) (fault : PathFault)
@@ -121,8 +136,9 @@ tells_first : (ps : List LoadedPackage) (tables : Tables) (i : ℕ) (sources : L
     → IsOfPath (entry_of d.diagnostic)
     → slice_get ways number ≡ Some told
     → map shown d.notes.items ≡ notes_by_ways sources ways (entry_of d.diagnostic)
+    → HasWay ways d
     → TellsWay ps tables i sources d
-tells_first ps tables i sources ways d flags number file fault told own first way is_entry e is_told notes = record {
+tells_first ps tables i sources ways d flags number file fault told own first way is_entry e is_told notes goes = record {
   flags = flags;
   number = number;
   file = file;
@@ -134,6 +150,8 @@ tells_first ps tables i sources ways d flags number file fault told own first wa
   is_entry = is_entry ∙ ap (path_entry number) (sym first.is_of);
   are_notes = notes
       ∙ told_notes sources ways (entry_of d.diagnostic) number fault told first.way is_entry e is_told first.is_first;
+  are_offsets = goes
+      ∙ told_offsets ways (entry_of d.diagnostic) number fault told first.way is_entry e is_told first.is_first;
 }
 
 -- Such a diagnostic has the notes of a way.
@@ -144,8 +162,9 @@ pub tells_way : (ps : List LoadedPackage) (tables : Tables) (i : ℕ) (sources :
     → SaysByPaths ps tables i (entry_of d.diagnostic)
     → IsOfPath (entry_of d.diagnostic)
     → map shown d.notes.items ≡ notes_by_ways sources ways (entry_of d.diagnostic)
+    → HasWay ways d
     → TellsWay ps tables i sources d
-tells_way ps tables i sources ways d are says e notes =
+tells_way ps tables i sources ways d are says e notes goes =
     let x = entry_of d.diagnostic in
     let said = (walks_are_enough.says ps tables i are.loaded are.walked are.files are.flags are.are_walked x).1 says in
     let calls = calls_by are.flags (imported_flags are.loaded tables) in
@@ -161,4 +180,4 @@ tells_way ps tables i sources ways d are says e notes =
     tells_first ps tables i sources ways d are.flags said.number said.file at.fault told.0 own first
     (subst (λ (l : LoadedPackage). IsToldOf (calls_by are.flags (imported_flags l tables)) said.file
     (bodies_of said.file.seen) first.way) same (here.each first.way first.is_there))
-    at.is_entry e told.1 notes
+    at.is_entry e told.1 notes goes

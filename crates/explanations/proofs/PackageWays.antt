@@ -49,7 +49,8 @@ are_told declared ps tables i sources ways diagnostics explained so found same n
     ((found.each (entry_of d.diagnostic)).0 (contains_map entry_of diagnostics d.diagnostic there)) of_path in
     let are = so (any_holds (λ (x : Diagnostic). is_some (path_code_of x.code)) diagnostics d.diagnostic there of_path)
     said.0 in
-    tells_way ps tables i sources ways d are said.1 of_path (noted d is_d of_path)
+    let has = noted d is_d of_path in
+    tells_way ps tables i sources ways d are said.1 of_path has.0 has.1
 
 -- one more says what its report says
 pub more_packages : (judged : List Judged) (i : ℕ) (one : Judged) (e : ExplainedPackage)

@@ -1,5 +1,5 @@
--- Why diagnostics stand in the report: the notes of one of a path tell a shortest way to its fault, and the note of one
--- of a use tells the reason of that use.
+-- Why diagnostics stand in the report: the notes of one of a path tell a shortest way to its fault, and so do the
+-- offsets of its way; the note of one of a use tells the reason of that use.
 use Rattle.std.specs.Prelude.{ℕ, ◌≡◌, true, List, map, is_some, Some, slice_get, Contains}
 use Rattle.body_ways.specs.BodyWays.{ToldWay, IsToldWay}
 use Rattle.explanations.specs.Found.{shown, path_code_of, way_note}
@@ -17,8 +17,8 @@ use Rattle.report.specs.Entries.{entry_of}
 use Rattle.report.specs.declared.notes.ExplainedDiagnostic.{ExplainedDiagnostic}
 use Rattle.report.specs.declared.notes.ExplainedPackage.{ExplainedPackage}
 
--- the notes of a diagnostic of the package at that place are those of a shortest way, through a body of a file of the
--- package, to the fault of which the diagnostic tells
+-- the notes of a diagnostic of the package at that place, and the offsets of its way, are those of a shortest way,
+-- through a body of a file of the package, to the fault of which the diagnostic tells
 pub record TellsWay
     (ps : List LoadedPackage) (tables : Tables) (i : ℕ) (sources : List Source) (d : ExplainedDiagnostic)
     : Type 0 where
@@ -33,6 +33,7 @@ pub record TellsWay
       (branches_of body.statements) told
   pub is_entry : entry_of d.diagnostic ≡ path_entry number told.fault
   pub are_notes : map shown d.notes.items ≡ map (way_note sources number) told.notes
+  pub are_offsets : d.way.items ≡ told.offsets
 
 -- each of these diagnostics that is one of a path tells a way
 abbrev pub AreToldBy : List LoadedPackage → Tables → ℕ → List Source → List ExplainedDiagnostic → Type 0

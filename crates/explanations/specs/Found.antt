@@ -88,6 +88,14 @@ told_in (Some f) (Some told) = first_told f told
 abbrev pub notes_by_ways : List Source → List (List ToldWay) → Entry → List Shown
 notes_by_ways sources ways x = notes_told sources x.file (told_in (fault_of x) (slice_get ways x.file))
 
+abbrev pub offsets_told : Option ToldWay → List ℕ
+offsets_told None = []
+offsets_told (Some t) = t.offsets
+
+-- and the offsets of its way
+abbrev pub offsets_by_ways : List (List ToldWay) → Entry → List ℕ
+offsets_by_ways ways x = offsets_told (told_in (fault_of x) (slice_get ways x.file))
+
 -- one of the diagnostics tells of the fault of a path
 abbrev pub any_of_path : List Diagnostic → Bool
 any_of_path = list_any (λ d. is_some (path_code_of d.code))
@@ -95,9 +103,12 @@ any_of_path = list_any (λ d. is_some (path_code_of d.code))
 abbrev pub HasWayNotes : List Source → List (List ToldWay) → Diagnostic → List Note → Type 0
 HasWayNotes sources ways d notes = map shown notes ≡ notes_by_ways sources ways (entry_of d)
 
--- those that tell of one have these notes
+abbrev pub HasWay : List (List ToldWay) → ExplainedDiagnostic → Type 0
+HasWay ways d = d.way.items ≡ offsets_by_ways ways (entry_of d.diagnostic)
+
+-- those that tell of one have these notes and this way
 abbrev pub AreNotesByWays : List Source → List (List ToldWay) → List ExplainedDiagnostic → Type 0
 AreNotesByWays sources ways explained = (d : ExplainedDiagnostic)
     → Contains explained d
     → is_some (path_code_of d.diagnostic.code) ≡ true
-    → HasWayNotes sources ways d.diagnostic d.notes.items
+    → HasWayNotes sources ways d.diagnostic d.notes.items × HasWay ways d

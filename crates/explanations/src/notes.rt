@@ -10,7 +10,7 @@ ghost use Rattle.explanations.specs.ToldViews.{ways_view};
 use crate::asked::is_of_use;
 use crate::pointers::{first_finding, first_of_name, on_the_ring};
 use crate::told_uses::{FileUses, use_note};
-use crate::way_of::{is_of_path, way_notes};
+use crate::way_of::{is_of_path, way_notes, way_offsets};
 use body_ways::ToldFault;
 use given_packages::Given;
 use lexer::Source;
@@ -150,7 +150,7 @@ impl<'a> Explaining<'_, 'a> {
         one_or_none(alloc, self.other_note(alloc, diagnostic)?)
     }
 
-    /// Each of these diagnostics with its notes.
+    /// Each of these diagnostics with its notes and its way.
     ///
     /// # Errors
     ///
@@ -169,9 +169,11 @@ impl<'a> Explaining<'_, 'a> {
         let mut explained: Vec<ExplainedDiagnostic<'a>> = Vec::new(alloc);
         for diagnostic in diagnostics {
             let notes = self.notes_of(alloc, *diagnostic)?;
+            let way = way_offsets(alloc, &self.reasons.ways, *diagnostic)?;
             explained.push(ExplainedDiagnostic {
                 diagnostic: *diagnostic,
                 notes,
+                way,
             })?;
         }
         Ok(explained)

@@ -2,7 +2,7 @@
 
 ghost use Rattle.std.specs.Prelude.{◌≡◌, IfOk, is_some, map, option_map};
 ghost use Rattle.body_ways.specs.ToldViews.{told_fault_view};
-ghost use Rattle.explanations.specs.Found.{any_of_path, code_number, fault_of, first_told, is_same_fault, notes_by_ways, notes_told, path_code_of, shown, way_note};
+ghost use Rattle.explanations.specs.Found.{any_of_path, code_number, fault_of, first_told, is_same_fault, notes_by_ways, notes_told, offsets_by_ways, offsets_told, path_code_of, shown, way_note};
 ghost use Rattle.explanations.specs.ToldViews.{told_views, ways_view};
 ghost use Rattle.path_faults.specs.FaultViews.{code_view, fault_view};
 ghost use Rattle.report.specs.Entries.{entry_of};
@@ -130,6 +130,30 @@ fn notes_of<'a>(
     Ok(notes)
 }
 
+/// The offsets of a way.
+fn copied(alloc: Global, offsets: &[u32]) -> Result<Vec<u32>, AllocError>
+    ensures { IfOk result (λ copy. copy.items ≡ offsets.now) }
+{
+    let mut copy = Vec::new(alloc);
+    copy.extend_from_slice(offsets)?;
+    Ok(copy)
+}
+
+/// The offsets of the way to the fault, by what is told of the paths of its file.
+fn offsets_in<'a>(
+    alloc: Global,
+    told: &[ToldFault<'a>],
+    fault: PathFault<'_>,
+) -> Result<Vec<u32>, AllocError>
+    ensures { IfOk result (λ offsets. offsets.items
+        ≡ offsets_told (first_told (fault_view fault.entry) (told_views told.now))) }
+{
+    match first_told(told, fault) {
+        Some(one) => copied(alloc, &one.offsets),
+        None => Ok(Vec::new(alloc)),
+    }
+}
+
 /// The notes of the way to the fault, by what is told of the paths of its file.
 fn notes_in<'a>(
     alloc: Global,
@@ -166,6 +190,29 @@ pub fn way_notes<'a>(
     };
     match ways.get(diagnostic.file) {
         Some(told) => notes_in(alloc, sources, diagnostic.file, told, fault),
+        None => Ok(Vec::new(alloc)),
+    }
+}
+
+/// The offsets of the way to the fault of which the diagnostic tells, by what is told of the paths of each file; none
+/// where it tells of none.
+///
+/// # Errors
+///
+/// Memory was refused.
+pub fn way_offsets<'a>(
+    alloc: Global,
+    ways: &[Vec<ToldFault<'a>>],
+    diagnostic: Diagnostic<'_>,
+) -> Result<Vec<u32>, AllocError>
+    ensures { IfOk result (λ offsets. offsets.items
+        ≡ offsets_by_ways (ways_view ways.now) (entry_of diagnostic.entry)) }
+{
+    let Some(fault) = fault_of(diagnostic) else {
+        return Ok(Vec::new(alloc));
+    };
+    match ways.get(diagnostic.file) {
+        Some(told) => offsets_in(alloc, told, fault),
         None => Ok(Vec::new(alloc)),
     }
 }

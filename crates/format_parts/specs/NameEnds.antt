@@ -1,7 +1,7 @@
 -- Where the name of what is said ends, if it stands at that place: the text goes on with it there, and no byte of a
 -- word is behind it. A report by the second edition of the rules tells it.
 use Rattle.std.specs.Prelude.{ℕ, Bool, false, ◌+◌, ◌==◌, not, ◌&&◌, List, [], ◌∷◌, length, drop, Option, Some, None, if◌then◌else◌, ◌++◌, codes}
-use Rattle.accepting.specs.Bodies.{begins_with}
+use Rattle.function_spans.specs.Bodies.{begins_with}
 use Rattle.lexer.specs.Bytes.{minus}
 use Rattle.lexer.specs.declared.source.Source.{Source}
 use Rattle.report.specs.Entries.{Entry}

@@ -1,11 +1,11 @@
 //! Where the names of findings end, and what stands behind a place.
 
-ghost use Rattle.std.specs.Prelude.{◌≡◌, ◌++◌, drop, slice_get, slice_index};
-ghost use Rattle.accepting.specs.Bodies.{begins_with, is_of_word};
+ghost use Rattle.std.specs.Prelude.{◌≡◌, ◌++◌, drop, slice_get};
 ghost use Rattle.report.specs.Entries.{entry_of};
 ghost use Rattle.report.specs.ReportText.{bytes_of};
 ghost use Rattle.format_parts.specs.NameEnds.{name_before, name_end, name_stands, told_end};
 
+use function_spans::begins_with;
 use lexer::{Place, Source};
 use report::{Diagnostic, Wording};
 
@@ -71,27 +71,6 @@ fn name_stands(name: &str, text: &[u8], offset: usize) -> bool
     ensures { result ≡ name_stands name.now text.now offset }
 {
     name != "-" && begins_with(name.as_bytes(), behind(text, offset))
-}
-
-/// Whether the text begins with this word.
-fn begins_with(word: &[u8], text: &[u8]) -> bool
-    ensures { result ≡ begins_with word.now text.now }
-{
-    text.starts_with(word) && !is_of_word(byte_at(text, word.len()))
-}
-
-/// The byte at a place, or 0 behind the text's end.
-fn byte_at(text: &[u8], at: usize) -> u8
-    ensures { result ≡ slice_index text.now at }
-{
-    if at < text.len() { text[at] } else { 0 }
-}
-
-/// Whether it is a byte of a keyword or identifier.
-fn is_of_word(byte: u8) -> bool
-    ensures { result ≡ is_of_word byte }
-{
-    (byte.is_ascii_alphabetic() || byte.is_ascii_digit()) || (byte == b'_' || byte >= 128)
 }
 
 /// The name in a message and the space behind it; neither is there where the diagnostic speaks of none.

@@ -1,3 +1,5 @@
 mod BodySizes
 mod Heads
 mod Opens
+mod Statements
+mod Values

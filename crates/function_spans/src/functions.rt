@@ -10,14 +10,14 @@ use crate::bodies::{
 };
 
 /// Whether the next byte stands outside of brackets, comments and quotes.
-fn is_outside(scan: Scan) -> bool
+pub fn is_outside(scan: Scan) -> bool
     ensures { result ≡ is_outside scan }
 {
     is_code(scan.within) && scan.depth == 0
 }
 
 /// Whether the word `func` begins there.
-fn is_func(scan: Scan, text: &[u8]) -> bool
+pub fn is_func(scan: Scan, text: &[u8]) -> bool
     ensures { result ≡ is_func scan text.now }
 {
     (is_code(scan.within) && !scan.in_word) && begins_with(b"func", text)
@@ -64,7 +64,7 @@ fn has_body(text: &[u8]) -> bool
     false
 }
 
-fn is_white_space(byte: u8) -> bool
+pub fn is_white_space(byte: u8) -> bool
     ensures { result ≡ is_white_space byte }
 {
     (byte == b' ' || byte == b'\t') || byte == b'\r'
@@ -102,7 +102,7 @@ fn named_text(text: &[u8]) -> &[u8]
 }
 
 /// The word that begins the text; none where it begins with another byte.
-fn word_of(text: &[u8]) -> &[u8]
+pub fn word_of(text: &[u8]) -> &[u8]
     ensures { result.now ≡ word_of text.now }
 {
     let mut size = 0;
@@ -184,7 +184,7 @@ pub fn receiver_type(text: &[u8], function: usize) -> &[u8]
 }
 
 /// What stands behind so many bytes of a text.
-fn behind(text: &[u8], count: usize) -> &[u8]
+pub fn behind(text: &[u8], count: usize) -> &[u8]
     ensures { result.now ≡ drop count text.now }
 {
     if count > text.len() {

@@ -21,6 +21,7 @@ use Rattle.certificate_json.specs.Certificates.{PackageEntry}
 use Rattle.meaning.specs.FunctionFacts.{cancel, cancel_type, CancelType, FunctionFacts}
 use Rattle.meaning.specs.Uses.{Seen, facts_take, facts_take_type, has_kind_at, has_type_at}
 use Rattle.meaning_packages.specs.CallsFlags.{Flags, FileWithCredits, calls_by}
+use Rattle.meaning_packages.specs.Credits.{promises_in}
 use Rattle.meaning_reports.proofs.OneAnswer.{one_list}
 use Rattle.meaning_reports.proofs.OneReport.{one_way, flags_by_paths}
 use Rattle.meaning_reports.specs.Loaded.{LoadedPackage, Tables, imported_flags, means_in, signatures_of, trees_of, seen_files}
@@ -32,7 +33,8 @@ use Rattle.path_faults.proofs.Places.{place_of}
 use Rattle.table_json.specs.declared.table.Parameter.{Parameter}
 use Rattle.table_json.specs.TableValues.{if_fits}
 use Rattle.verifier.specs.GivenViews.{claim_at, first_params, claim_in, given_of, package_in}
-use Rattle.verifier.specs.Verified.{IsClaimed, AreClaimed}
+use Rattle.verifier.specs.Verified.{nothing_known, IsClaimed, AreClaimed}
+use Rattle.calls_flags.proofs.ComesBack.{by_code_alone}
 use Rattle.whole_packages.specs.LoadedViews.{HaveDistinctPaths}
 
 -- The package of a path
@@ -133,6 +135,9 @@ module _ (ps : List LoadedPackage) (tables : Tables) (i : ℕ) (p : LoadedPackag
         has_its_type =
             ap (facts_take_type (cancel_type told_there.type) k) (functions ∙ facts.1)
             ∙ (ap (list_any (has_type_at (cancel_type told_there.type) k)) signature.are_parameters ∙ told_there.has_its_type);
+        comes_back = by_code_alone kept.file.seen.known.edition kept.file.seen
+            (promises_in (calls_by flags (imported_flags p tables)) kept.file.credits kept.body.at) nothing_known kept.body
+            kept.comes_back;
       }
 
   known_so : (name : List ℕ) (k : ℕ) → IsClaimed files (given_of (Some entry)) name k → flags name k ≡ true

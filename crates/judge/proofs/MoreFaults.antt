@@ -2,8 +2,10 @@
 -- as it was, or safe, and a group as it was.
 use Rattle.std.proofs.Common.{◌≡◌, ℕ, inl, inr, Bool, true, false, ◌&&◌, List, [], ◌∷◌, ◌++◌, Option, Some, None, Contains, refl, sym, ap, ◌∙◌}
 use Rattle.std.specs.Prelude.{◌==◌, if◌then◌else◌}
-use Rattle.std.proofs.lemmas.Bool.{false≢true}
+use Rattle.std.specs.List.{list_any}
+use Rattle.std.proofs.lemmas.Bool.{false≢true, and_parts, and_from, or_cases, or_left, or_right}
 use Rattle.std.proofs.lemmas.List.Elements.{Contains-append_left}
+use Rattle.calls_flags.proofs.ComesBack.{by_code_alone}
 use Rattle.calls_flags.proofs.MoreCalls.{NoWorse, after_no_worse, same_group}
 use Rattle.meaning.proofs.Membership.{contains_here, contains_there}
 use Rattle.meaning.specs.BodyEvents.{Variable, bodies_of}
@@ -11,7 +13,7 @@ use Rattle.meaning.specs.Classes.{Promises, CancelClass, opened, kept, safe, pen
 use Rattle.meaning.specs.Code.{Occurrence}
 use Rattle.meaning.specs.Lists.{Reaches, stopped}
 use Rattle.meaning.specs.Mentions.{BodyPlace}
-use Rattle.meaning.specs.Uses.{Callee, VariableAt, Event, other, obtain, obtain_kept, renew, keep, call_kept, defer_kept, give, give_field, clear, call, defer_call, pass, defer_pass, lend, start, try, wait, defer_wait, make, defer_literal, return_event, Seen}
+use Rattle.meaning.specs.Uses.{Callee, VariableAt, Sent, go_call, go_pass, go_literal, Event, other, obtain, obtain_kept, renew, keep, call_kept, defer_kept, give, give_field, clear, call, defer_call, pass, defer_pass, lend, start, try, wait, defer_wait, make, defer_literal, go, return_event, Seen}
 use Rattle.meaning_packages.specs.CallsFlags.{Flags, FileWithCredits, flag_of, calls_by, AreConsistent}
 use Rattle.meaning_packages.specs.Credits.{Credits, begun_after, promises_in, no_calls}
 use Rattle.meaning_packages.specs.PathFaults.{PathFault, Paths, paths_of, cancel_class, is_lost, PassesOn, passes, defers, LeavesLive, IsLeft, IsPathFault, loses_cancel, loses_group, returns_live, returns_open, returns_kept, returns_pending, KeepsCall, IsPassFault, passes_on, IsFaultOf, of_a_pass, of_a_path}
@@ -31,6 +33,20 @@ passed_so false b c k j more h = h
 passed_so true false false k j more h = h
 passed_so true false true k j more h = inr refl
 passed_so true true c k j more h = inr (ap (λ x. if x then safe else j) (more refl))
+
+-- where more is known of a function, more is known of what it gets
+sent_grows_by : (fewer more : Callee → ℕ → Bool) {f : Callee} → ((n : ℕ) → fewer f n ≡ true → more f n ≡ true)
+    → (v : ℕ) (xs : List Sent) → list_any (λ x. (x.number == v) && fewer f x.position) xs ≡ true
+    → list_any (λ x. (x.number == v) && more f x.position) xs ≡ true
+sent_grows_by fewer more grows v [] e = absurd (false≢true e)
+sent_grows_by fewer more {f} grows v (x ∷ xs) e =
+    elim (or_cases ((x.number == v) && fewer f x.position) _ e) [
+      | inl here ↦
+          let parts = and_parts (x.number == v) (fewer f x.position) here in
+          or_left ((x.number == v) && more f x.position) _
+          (and_from (x.number == v) (more f x.position) parts.0 (grows x.position parts.1))
+      | inr later ↦ or_right ((x.number == v) && more f x.position) _ (sent_grows_by fewer more grows v xs later)
+    ]
 
 module _ (fewer more : Callee → ℕ → Bool) (credits : ℕ → ℕ → Bool) where
   abbrev by_fewer : Promises
@@ -73,6 +89,12 @@ module _ (fewer more : Callee → ℕ → Bool) (credits : ℕ → ℕ → Bool)
   change_so v (defer_wait g) grows k j h = same_known v (defer_wait g) k j h
   change_so v (make g state) grows k j h = same_known v (make g state) k j h
   change_so v (defer_literal literal) grows k j h = same_known v (defer_literal literal) k j h
+  change_so v (go (go_call u)) grows k j h = same_known v (go (go_call u)) k j h
+  change_so v (go (go_pass f xs)) grows k j h =
+      passed_so true (list_any (λ x. (x.number == v) && fewer f x.position) xs)
+      (list_any (λ x. (x.number == v) && more f x.position) xs) k j
+      (sent_grows_by fewer more (λ n. grows f n used.goes) v xs) h
+  change_so v (go (go_literal literal)) grows k j h = same_known v (go (go_literal literal)) k j h
   change_so v (return_event handed) grows k j h = same_known v (return_event handed) k j h
 
   after_so : (v : ℕ) (k j : CancelClass) (t : List (Occurrence Event))
@@ -273,6 +295,10 @@ module _ (own : Flags) (fewer more : List ℕ → Flags) (files : List FileWithC
           variable = kept.variable;
           is_of_package = kept.is_of_package;
           is_claim = kept.is_claim;
+          comes_back =
+              by_code_alone kept.file.seen.known.edition kept.file.seen
+              (promises_in (calls_by own fewer) kept.file.credits kept.body.at)
+              (promises_in (calls_by own more) kept.file.credits kept.body.at) kept.body kept.comes_back;
           keeps =
               keeps_still (calls_by own fewer) (calls_by own more) kept.file.seen
               (calls_grow own own fewer more kept.file.seen (λ n m h. h) (grow kept.file kept.is_of_package))

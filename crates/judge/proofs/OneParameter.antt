@@ -6,7 +6,7 @@ use Rattle.std.proofs.lemmas.List.Elements.{Contains-append_cases, Contains-appe
 use Rattle.meaning.proofs.Membership.{contains_here, contains_cases, contains_nil}
 use Rattle.meaning.specs.BodyEvents.{Variable, own_parameter, captured, role_in, role_in_own, opened_by, opened_in, bodies_of, variables_of, seen_file}
 use Rattle.meaning.specs.FunctionFacts.{TrackedType, cancel_type, Item, items_of, item_type}
-use Rattle.meaning.specs.Mentions.{BodyPlace, Mention, Mark, mentions, of_fields, defers_literal, returns, opens, closes}
+use Rattle.meaning.specs.Mentions.{BodyPlace, Mention, Mark, mentions, of_fields, runs_literal, returns, opens, closes}
 use Rattle.meaning.specs.Objects.{ObjectKind, new_object, outer_object, ObjectRow, object_rows, first_place, field_local, field_locals}
 use Rattle.meaning.specs.Scopes.{is_blank}
 use Rattle.meaning.specs.Tracked.{Known, Placed, LocalRole, parameter, receiver, variadic, result, in_block, Local, item_local, parameter_role, parameter_locals, receiver_locals, only_cancel, result_locals, receiver_items, signature_locals, body_locals, declared_by, declared_local, locals_there, locals_of}
@@ -268,7 +268,7 @@ of_mark : (known : Known) (bodies : List BodyPlace) (mark : Mark) (l : Local) (k
     → (b : BodyPlace) × Contains (opened_by mark) b × Contains (body_locals known b) l
 of_mark known bodies (mentions m) l k h e = absurd (declared_none known m bodies (declared_by known m) l k h e)
 of_mark known bodies (of_fields site m) l k h e = absurd (contains_nil l h)
-of_mark known bodies (defers_literal site at) l k h e = absurd (contains_nil l h)
+of_mark known bodies (runs_literal moment site at) l k h e = absurd (contains_nil l h)
 of_mark known bodies (returns at es) l k h e = absurd (contains_nil l h)
 of_mark known bodies (opens b) l k h e = (b, contains_here b [], h)
 of_mark known bodies closes l k h e = absurd (contains_nil l h)

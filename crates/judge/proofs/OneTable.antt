@@ -17,15 +17,16 @@ use Rattle.meaning.proofs.Membership.{contains_here, contains_there}
 use Rattle.meaning.specs.BodyEvents.{Variable, bodies_of, variables_of, too_many_faults, jump_faults, unfollowed_faults}
 use Rattle.meaning.specs.FunctionFacts.{cancel}
 use Rattle.meaning.specs.Mentions.{BodyPlace}
-use Rattle.meaning.specs.Uses.{Callee, Seen}
+use Rattle.meaning.specs.Uses.{Callee, Seen, goes_off}
 use Rattle.meaning_packages.specs.CallsFlags.{Flags}
-use Rattle.meaning_packages.specs.Credits.{body_at, Credits, begun_after, promises_in, no_calls, Settles, IsCredited}
+use Rattle.meaning_packages.specs.Credits.{body_at, Credits, begun_after, promises_in, no_calls, binds_captured, Settles, MayComeBack, IsCredited}
 use Rattle.meaning_packages.specs.PathFaults.{Paths, paths_of, KeepsCall}
 use Rattle.meaning_reports.proofs.OneAnswer.{same_test, same_behind}
 use Rattle.path_faults.proofs.Places.{contains_at, place_of}
 use Rattle.verifier.proofs.OneVerified.{credited_too as credited_by_too}
 use Rattle.verifier.specs.FoundBodies.{with_table}
-use Rattle.verifier.specs.Verified.{Given, flags_of_body, IsCertified, IsCreditedBy, AreGivenCredits}
+use Rattle.calls_flags.proofs.ComesBack.{back_alone}
+use Rattle.verifier.specs.Verified.{Given, nothing_known, flags_of_body, IsCertified, IsCreditedBy, AreGivenCredits}
 
 -- Bodies at an offset
 
@@ -77,6 +78,9 @@ credited_too seen one other literal number same h = record {
   is_of_body = h.is_of_body;
   is_captured = h.is_captured;
   is_it = h.is_it;
+  binds_none = h.binds_none;
+  comes_back = subst (λ c. MayComeBack seen.known.edition (goes_off h.body.literal) (relying seen h.body no_calls c)) same
+      h.comes_back;
   settles = subst (λ c. Settles (relying seen h.body no_calls c) h.variable) same h.settles;
 }
 
@@ -160,14 +164,19 @@ module _ (given : Given) (own : Flags) (calls : Callee → ℕ → Bool) (number
         record {
           body = b;
           is_there = h.is_there;
-          settled = record {
-            certified = is_certified b h.is_followed its sound;
-            place = settled.0;
-            found = h.variable;
-            is_of_body = settled.1;
-            is_captured = h.is_captured;
-            is_it = h.is_it;
-            settles = settled.2;
+          relied = record {
+            settles = record {
+              certified = is_certified b h.is_followed its sound;
+              place = settled.0;
+              found = h.variable;
+              is_of_body = settled.1;
+              is_captured = h.is_captured;
+              is_it = h.is_it;
+              settles = settled.2;
+            };
+            binds_none = subst (λ at. binds_captured seen.known.edition seen at variable ≡ false) back h.binds_none;
+            comes_back = back_alone seen.known.edition (goes_off b.literal) seen (promises_in no_calls full literal)
+                nothing_known b h.comes_back;
           };
         }
 

@@ -12,7 +12,7 @@ use Rattle.std.specs.Prelude.{None}
 
 -- a finding without notes, of what is said
 abbrev finding_of : Entry → FindingEntry
-finding_of x = record { said = x; notes = []; accepted = None }
+finding_of x = record { said = x; notes = []; way = []; accepted = None }
 
 findings_of : (ds : List Diagnostic) → map plain_finding ds ≡ map finding_of (map entry_of ds)
 findings_of [] = refl

@@ -1,6 +1,6 @@
--- What a yes says of runs: where nothing is said of a package, each return of a frame of the package is quiet, in every
--- run over all given packages, be they yes or not. `meaning_runs` has the runs. They have two premises on functions
--- without a body, as those of packages that were not given: what is declared of one is true when it returns
+-- What a yes says of runs: where nothing is said of a package, each return of a frame of the package is as promised, in
+-- every run over all given packages, be they yes or not. `meaning_runs` has the runs. They have two premises on
+-- functions without a body, as those of packages that were not given: what is declared of one is true when it returns
 -- (`DeclaredIsTrue`); and it starts work in a group that it was lent only before it returns (`IsOutsideCall`), while
 -- what it started there may start more. And runs know of objects only what a frame itself keeps in their fields: that
 -- nobody else gives such a field another value, before it is called or given to others, no run tells.

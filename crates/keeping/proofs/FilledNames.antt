@@ -3,7 +3,7 @@ use Rattle.std.proofs.Common.{◌≡◌, ℕ, Bool, true, false, not, List, [], 
 use Rattle.std.specs.Prelude.{if◌then◌else◌, flat_map}
 use Rattle.std.specs.List.{filter}
 use Rattle.meaning.specs.FunctionFacts.{listed}
-use Rattle.meaning.specs.Mentions.{BodyPlace, calls_field, writes_field, hands_over, hands_literal, renews, imports_all, Mark, mentions, of_fields, defers_literal, returns, opens, closes}
+use Rattle.meaning.specs.Mentions.{BodyPlace, calls_field, writes_field, hands_over, hands_literal, renews, imports_all, Mark, mentions, of_fields, runs_literal, returns, opens, closes}
 use Rattle.meaning.specs.Uses.{Seen, is_outside}
 use Rattle.meaning.specs.Kept.{role_fields, is_key}
 use Rattle.meaning.specs.KeepingFields.{holds_after, may_keep, filled_there as filled_by_mark, filled_in}
@@ -42,7 +42,7 @@ module _ (seen : Seen) (bodies : List BodyPlace) where
   mark_fills (of_fields site (hands_literal taker at)) = refl
   mark_fills (of_fields site (renews n)) = refl
   mark_fills (of_fields site imports_all) = refl
-  mark_fills (defers_literal site at) = refl
+  mark_fills (runs_literal moment site at) = refl
   mark_fills (returns at es) =
       sym (items_none filled_name (λ f. refl) (λ f. refl) (λ f. refl) seen bodies (listed es))
   mark_fills (opens b) = sym (no_method_name filled_name (λ f. refl) (method_named b.name b.receiver))

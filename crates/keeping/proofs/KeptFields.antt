@@ -7,7 +7,7 @@ use Rattle.std.proofs.lemmas.Bool.{false≢true}
 use Rattle.std.proofs.lemmas.List.Folds.{list_any-append}
 use Rattle.tree.specs.Syntax.{Expression, missing_expression}
 use Rattle.meaning.specs.FunctionFacts.{listed, means_universe}
-use Rattle.meaning.specs.Mentions.{as_bare, BodyPlace, FieldLeft, Assigned, calls_field, writes_field, hands_over, hands_literal, renews, imports_all, Mark, mentions, of_fields, defers_literal, returns, opens, closes}
+use Rattle.meaning.specs.Mentions.{as_bare, BodyPlace, FieldLeft, Assigned, calls_field, writes_field, hands_over, hands_literal, renews, imports_all, Mark, mentions, of_fields, runs_literal, returns, opens, closes}
 use Rattle.meaning.specs.Uses.{Seen, is_outside}
 use Rattle.meaning.specs.Kept.{Element, Gift, named_gift, element_gift, gifts, role_fields, own_cancel, field_value, is_key, some_bare}
 use Rattle.meaning.specs.KeepingFields.{called_there, called_fields, value_at, is_own_or_nil, is_by_giver, holds_after, may_keep, spoils, gift_elements, item_elements, is_put_by, puts, in_some_file, does_keep, keeping_fields}
@@ -128,7 +128,7 @@ module _ (seen : Seen) (bodies : List BodyPlace) (f : List ℕ) where
   mark_puts (of_fields site (hands_literal taker at)) = refl
   mark_puts (of_fields site (renews n)) = refl
   mark_puts (of_fields site imports_all) = refl
-  mark_puts (defers_literal site at) = refl
+  mark_puts (runs_literal moment site at) = refl
   mark_puts (returns at es) = items_put (listed es)
   mark_puts (opens b) = sym (no_method_any (puts_it f) (λ g. refl) (method_named b.name b.receiver))
   mark_puts closes = refl
@@ -214,7 +214,7 @@ module _ (seen : Seen) (bodies : List BodyPlace) (f : List ℕ) where
   mark_spoils (of_fields site (hands_literal taker at)) = refl
   mark_spoils (of_fields site (renews n)) = refl
   mark_spoils (of_fields site imports_all) = refl
-  mark_spoils (defers_literal site at) = refl
+  mark_spoils (runs_literal moment site at) = refl
   mark_spoils (returns at es) = sym (items_spoil (listed es))
   mark_spoils (opens b) = sym (no_method_any (spoils_it f) (λ g. refl) (method_named b.name b.receiver))
   mark_spoils closes = refl
@@ -282,7 +282,7 @@ module _ (seen : Seen) (bodies : List BodyPlace) where
   mark_calls (of_fields site (hands_literal taker at)) = refl
   mark_calls (of_fields site (renews n)) = refl
   mark_calls (of_fields site imports_all) = refl
-  mark_calls (defers_literal site at) = refl
+  mark_calls (runs_literal moment site at) = refl
   mark_calls (returns at es) = sym (items_call (listed es))
   mark_calls (opens b) = sym (no_method_name called_name (λ g. refl) (method_named b.name b.receiver))
   mark_calls closes = refl

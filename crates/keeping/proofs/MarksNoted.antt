@@ -6,7 +6,7 @@ use Rattle.tree.proofs.Depths.{drop_item}
 use Rattle.mentions.specs.declared.mark.BodyPlace.{BodyPlace as KeptBody}
 use Rattle.mentions.specs.declared.mark.Mark.{Mark as KeptMark}
 use Rattle.mentions.specs.MarkViews.{body_view, mark_view, marks_view}
-use Rattle.meaning.specs.Mentions.{BodyPlace, Mark, mentions, of_fields, defers_literal, returns, opens, closes}
+use Rattle.meaning.specs.Mentions.{BodyPlace, Mark, mentions, of_fields, runs_literal, returns, opens, closes}
 use Rattle.meaning.specs.Tracked.{outer, Placed, placed}
 use Rattle.tracked.specs.LocalViews.{bodies_at}
 use Rattle.noted_fields.specs.NotedFields.{Note}
@@ -22,7 +22,7 @@ one_mark : (says : List BodyPlace → Mark → List Note) → ((bs : List BodyPl
 unfolding placed
 one_mark says none bs (mentions m) ms = refl
 one_mark says none bs (of_fields site m) ms = refl
-one_mark says none bs (defers_literal site at) ms = refl
+one_mark says none bs (runs_literal moment site at) ms = refl
 one_mark says none bs (returns at es) ms = refl
 one_mark says none bs (opens b) ms = refl
 one_mark says none bs closes ms = ap (λ l. l ++ there says (outer bs) ms) (sym (none (outer bs)))

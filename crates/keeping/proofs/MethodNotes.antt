@@ -2,7 +2,7 @@
 use Rattle.std.proofs.Common.{◌≡◌, ℕ, Bool, true, false, List, [], ◌∷◌, ◌++◌, map, refl, sym, ap, ◌∙◌}
 use Rattle.std.specs.Prelude.{if◌then◌else◌, flat_map}
 use Rattle.meaning.specs.FunctionFacts.{listed}
-use Rattle.meaning.specs.Mentions.{BodyPlace, calls_field, writes_field, hands_over, hands_literal, renews, imports_all, Mark, mentions, of_fields, defers_literal, returns, opens, closes}
+use Rattle.meaning.specs.Mentions.{BodyPlace, calls_field, writes_field, hands_over, hands_literal, renews, imports_all, Mark, mentions, of_fields, runs_literal, returns, opens, closes}
 use Rattle.meaning.specs.Uses.{Seen, is_outside}
 use Rattle.meaning.specs.Kept.{role_fields, is_key}
 use Rattle.meaning.specs.KeepingFields.{holds_after, may_keep}
@@ -36,7 +36,7 @@ module _ (seen : Seen) (bodies : List BodyPlace) where
   mark_names (of_fields site (hands_literal taker at)) = refl
   mark_names (of_fields site (renews n)) = refl
   mark_names (of_fields site imports_all) = refl
-  mark_names (defers_literal site at) = refl
+  mark_names (runs_literal moment site at) = refl
   mark_names (returns at es) =
       sym (items_none method_name (λ f. refl) (λ f. refl) (λ f. refl) seen bodies (listed es))
   mark_names (opens b) = names_back (method_named b.name b.receiver)

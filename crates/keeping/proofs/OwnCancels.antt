@@ -11,7 +11,7 @@ use Rattle.meaning.specs.Scopes.{is_blank}
 use Rattle.meaning.specs.Declarations.{Meaning}
 use Rattle.meaning.specs.OuterBlocks.{or_else}
 use Rattle.meaning.specs.FunctionFacts.{TrackedType, cancel, group, kind_of_type, Item, items_of, item_type}
-use Rattle.meaning.specs.Mentions.{Mention, Named, BodyPlace, Mark, mentions, of_fields, defers_literal, returns, opens, closes}
+use Rattle.meaning.specs.Mentions.{Mention, Named, BodyPlace, Mark, mentions, of_fields, runs_literal, returns, opens, closes}
 use Rattle.meaning.specs.Tracked.{Known, local_meant_or, declared_there, variable_of, Placed, placed, LocalRole, parameter, receiver, variadic, result, Local, item_local, parameter_role, parameter_locals, receiver_locals, only_cancel, result_locals, receiver_items, signature_locals, role_typed, declared_local, locals_there, locals_of, find_local, is_variable, is_obtained_by, obtains_in, makes_in, kind_by_rows}
 use Rattle.meaning.specs.Objects.{local_named}
 use Rattle.meaning.specs.Uses.{Seen, seen_with, found, is_own, is_cancel, may_be_tracked, tracked_kind}
@@ -133,7 +133,7 @@ module _ (known : Known) (v : ℕ) where
   not_obtained (mentions m) h =
       not_it (variable_of known m) v (is_obtained_by known m m.role) (is_some (role_typed known m.role)) h
   not_obtained (of_fields site m) h = refl
-  not_obtained (defers_literal site at) h = refl
+  not_obtained (runs_literal moment site at) h = refl
   not_obtained (returns at es) h = refl
   not_obtained (opens b) h = refl
   not_obtained closes h = refl
@@ -152,7 +152,7 @@ module _ (known : Known) (v : ℕ) where
   not_declared bodies (mentions m) h =
       declared m bodies (known.means m.named.at) m.declares (is_obtained_by known m m.role) h
   not_declared bodies (of_fields site m) h = refl
-  not_declared bodies (defers_literal site at) h = refl
+  not_declared bodies (runs_literal moment site at) h = refl
   not_declared bodies (returns at es) h = refl
   not_declared bodies (opens b) h =
       both_outside v (receiver_locals known b (receiver_items b.receiver)) (signature_locals known b b.signature)

@@ -8,7 +8,7 @@ use Rattle.tree.specs.Syntax.{Identifier, SourceFile, Expression, expression_nod
 use Rattle.mentions.specs.declared.mark.Mark.{Mark as KeptMark}
 use Rattle.mentions.specs.MarkViews.{marks_view}
 use Rattle.meaning.specs.FunctionFacts.{listed, means_universe}
-use Rattle.meaning.specs.Mentions.{as_bare, BodyPlace, Row, FieldLeft, Assigned, calls_field, writes_field, hands_over, hands_literal, renews, imports_all, Mark, mentions, of_fields, defers_literal, returns, opens, closes, marks_by, file_marks}
+use Rattle.meaning.specs.Mentions.{as_bare, BodyPlace, Row, FieldLeft, Assigned, calls_field, writes_field, hands_over, hands_literal, renews, imports_all, Mark, mentions, of_fields, runs_literal, returns, opens, closes, marks_by, file_marks}
 use Rattle.meaning.specs.Tracked.{Known, has_field, may_bind, fits, only_call, call_giving, row_giving, Placed, placed}
 use Rattle.meaning.specs.Objects.{unaddressed, ObjectKind, object_in, local_named, type_at, ObjectRow, object_row, object_rows_there, object_rows}
 use Rattle.meaning.specs.Uses.{Seen, seen_with}
@@ -74,7 +74,7 @@ module _ (known : Known) (all : List Placed) where
   no_row_there bodies (of_fields site (renews number)) h = refl
   no_row_there bodies (of_fields site imports_all) h = refl
   no_row_there bodies (mentions m) h = refl
-  no_row_there bodies (defers_literal site at) h = refl
+  no_row_there bodies (runs_literal moment site at) h = refl
   no_row_there bodies (returns at es) h = refl
   no_row_there bodies (opens b) h = refl
   no_row_there bodies closes h = refl
@@ -149,7 +149,7 @@ module _ (known : Known) (marks : List Mark)
   mark_so (of_fields site (hands_literal taker at)) g h = refl
   mark_so (of_fields site (renews number)) g h = refl
   mark_so (of_fields site imports_all) g h = refl
-  mark_so (defers_literal site at) g h = refl
+  mark_so (runs_literal moment site at) g h = refl
   mark_so (returns at es) g h =
       none_each (given_may_put known numbers) (given_notes seen bodies) given_none (listed es) h
   mark_so (opens b) g h = refl
@@ -238,7 +238,7 @@ module _ (known : Known) where
   mark_never (of_fields site (hands_literal taker at)) = refl
   mark_never (of_fields site (renews number)) = refl
   mark_never (of_fields site imports_all) = refl
-  mark_never (defers_literal site at) = refl
+  mark_never (runs_literal moment site at) = refl
   mark_never (returns at es) = never (given_may_put known []) given_never (listed es)
   mark_never (opens b) = refl
   mark_never closes = refl

@@ -5,7 +5,7 @@ use Rattle.std.specs.List.{list_any}
 use Rattle.std.specs.Str.{bytes_eq}
 use Rattle.tree.specs.Syntax.{SourceFile}
 use Rattle.keeping.specs.Keeping.{PutsNothing, PutNothing}
-use Rattle.meaning.specs.Mentions.{Named, Row, Call, BodyPlace, Assigned, calls_field, writes_field, hands_over, hands_literal, renews, imports_all, Mark, mentions, of_fields, defers_literal, returns, opens, closes, marks_by, file_marks}
+use Rattle.meaning.specs.Mentions.{Named, Row, Call, BodyPlace, Assigned, calls_field, writes_field, hands_over, hands_literal, renews, imports_all, Mark, mentions, of_fields, runs_literal, returns, opens, closes, marks_by, file_marks}
 use Rattle.meaning.specs.Tracked.{each_field, Known, ObjectLeft, may_bind, only_call, Placed, placed}
 use Rattle.meaning.specs.Uses.{Seen, seen_with, seen_in}
 use Rattle.meaning.specs.BodyEvents.{seen_file}
@@ -66,7 +66,7 @@ module _ (known : Known) (gives : GivesByContext known) (marks : List Mark)
   no_put f bodies (of_fields site (hands_literal taker at)) h = refl
   no_put f bodies (of_fields site (renews n)) h = refl
   no_put f bodies (of_fields site imports_all) h = refl
-  no_put f bodies (defers_literal site at) h = refl
+  no_put f bodies (runs_literal moment site at) h = refl
   no_put f bodies (returns at es) h = no_elements f bodies (elements_there (returns at es))
   no_put f bodies (opens b) h = refl
   no_put f bodies closes h = refl

@@ -5,7 +5,7 @@ use Rattle.std.specs.Prelude.{ℕ, Bool, false, if◌then◌else◌, List, [], �
 use Rattle.std.specs.Str.{bytes_eq}
 use Rattle.tree.specs.Syntax.{Expression, missing_expression}
 use Rattle.meaning.specs.FunctionFacts.{listed}
-use Rattle.meaning.specs.Mentions.{BodyPlace, FieldLeft, Assigned, FieldMark, calls_field, writes_field, hands_over, hands_literal, renews, imports_all, Mention, Mark, mentions, of_fields, defers_literal, returns, opens, closes}
+use Rattle.meaning.specs.Mentions.{BodyPlace, FieldLeft, Assigned, FieldMark, calls_field, writes_field, hands_over, hands_literal, renews, imports_all, Mention, Mark, mentions, of_fields, runs_literal, returns, opens, closes}
 use Rattle.meaning.specs.Uses.{Seen, is_outside}
 use Rattle.meaning.specs.Kept.{Element, Gift, named_gift, element_gift, gifts, is_key, field_value, role_fields}
 use Rattle.meaning.specs.KeepingFields.{holds_after, may_keep}
@@ -56,7 +56,7 @@ method_notes b = map is_method (method_named b.name b.receiver)
 abbrev pub notes_there : Seen → List BodyPlace → Mark → List Note
 notes_there seen bodies (mentions m) = key_notes m ++ flat_map (element_notes seen bodies) (role_fields m.role)
 notes_there seen bodies (of_fields site m) = field_notes seen bodies m
-notes_there seen bodies (defers_literal site at) = []
+notes_there seen bodies (runs_literal moment site at) = []
 notes_there seen bodies (returns at es) = flat_map (given_notes seen bodies) (listed es)
 notes_there seen bodies (opens b) = method_notes b
 notes_there seen bodies closes = []

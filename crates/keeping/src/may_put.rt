@@ -169,7 +169,7 @@ fn mark_may_put(
         Mark::Mentions(mention) => role_may_put(alloc, known, numbers, mention.role),
         Mark::OfFields(_, field) => field_may_put(alloc, known, numbers, *field),
         Mark::Returns(_, items) => items_may_put(alloc, known, numbers, items),
-        Mark::DefersLiteral(_, _) => Ok(false),
+        Mark::RunsLiteral(_, _, _) => Ok(false),
         Mark::Opens(_) => Ok(false),
         Mark::Closes => Ok(false),
     }

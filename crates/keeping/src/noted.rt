@@ -252,7 +252,7 @@ pub fn add_notes<'a>(
         }
         Mark::OfFields(_, field) => add_of_field(alloc, seen, bodies, *field, notes),
         Mark::Returns(_, items) => add_items(alloc, seen, bodies, items, notes),
-        Mark::DefersLiteral(_, _) => Ok(()),
+        Mark::RunsLiteral(_, _, _) => Ok(()),
         Mark::Opens(body) => add_method(*body, notes),
         Mark::Closes => Ok(()),
     }

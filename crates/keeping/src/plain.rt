@@ -75,7 +75,7 @@ fn add_plain_notes<'a>(
         Mark::Mentions(mention) => add_key(mention, notes),
         Mark::OfFields(_, field) => add_plain_field(known, bodies, *field, notes),
         Mark::Returns(_, _) => Ok(()),
-        Mark::DefersLiteral(_, _) => Ok(()),
+        Mark::RunsLiteral(_, _, _) => Ok(()),
         Mark::Opens(body) => add_method(*body, notes),
         Mark::Closes => Ok(()),
     }

@@ -4,7 +4,7 @@ use Rattle.std.specs.Prelude.{◌==◌}
 use Rattle.std.specs.List.{list_any, list_all, filter}
 use Rattle.std.specs.Str.{bytes_eq}
 use Rattle.tracked.proofs.Numbers.{either_way}
-use Rattle.meaning.specs.Mentions.{BodyPlace, FieldLeft, Assigned, calls_field, writes_field, hands_over, hands_literal, renews, imports_all, Mark, mentions, of_fields, defers_literal, returns, opens, closes}
+use Rattle.meaning.specs.Mentions.{BodyPlace, FieldLeft, Assigned, calls_field, writes_field, hands_over, hands_literal, renews, imports_all, Mark, mentions, of_fields, runs_literal, returns, opens, closes}
 use Rattle.meaning.specs.Tracked.{Placed, is_variable}
 use Rattle.meaning.specs.Objects.{local_named}
 use Rattle.meaning.specs.Uses.{Seen}
@@ -127,7 +127,7 @@ write_written s k bs (of_fields site (hands_literal taker at)) = refl
 write_written s k bs (of_fields site (renews number)) = refl
 write_written s k bs (of_fields site imports_all) = refl
 write_written s k bs (mentions m) = refl
-write_written s k bs (defers_literal site at) = refl
+write_written s k bs (runs_literal moment site at) = refl
 write_written s k bs (returns at es) = refl
 write_written s k bs (opens b) = refl
 write_written s k bs closes = refl

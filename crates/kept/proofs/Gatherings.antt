@@ -6,14 +6,14 @@ use Rattle.std.proofs.lemmas.List.Elements.{filter-append}
 use Rattle.tree.proofs.Depths.{drop_item}
 use Rattle.mentions.specs.declared.mark.BodyPlace.{BodyPlace as KeptBody}
 use Rattle.mentions.specs.declared.mark.Mark.{Mark as KeptMark}
-use Rattle.mentions.specs.declared.mark.Mark.TheVariants.{Mentions, OfFields, DefersLiteral, Returns, Opens, Closes}
+use Rattle.mentions.specs.declared.mark.Mark.TheVariants.{Mentions, OfFields, RunsLiteral, Returns, Opens, Closes}
 use Rattle.mentions.specs.declared.mark.Mention.{Mention as KeptMention}
 use Rattle.mentions.specs.declared.mark.FieldMark.{FieldMark as KeptField}
 use Rattle.mentions.specs.declared.mark.FieldMark.TheVariants.{CallsField, WritesField, HandsOver, HandsLiteral, Renews, ImportsAll}
 use Rattle.mentions.specs.declared.mark.FieldLeft.{FieldLeft as KeptLeft}
 use Rattle.mentions.specs.declared.mark.Assigned.{Assigned as KeptAssigned}
 use Rattle.mentions.specs.MarkViews.{body_view, field_mark_view, mark_view, marks_view}
-use Rattle.meaning.specs.Mentions.{BodyPlace, Mention, FieldMark, calls_field, writes_field, hands_over, hands_literal, renews, imports_all, Mark, mentions, of_fields, defers_literal, returns, opens, closes}
+use Rattle.meaning.specs.Mentions.{BodyPlace, Mention, FieldMark, calls_field, writes_field, hands_over, hands_literal, renews, imports_all, Mark, mentions, of_fields, runs_literal, returns, opens, closes}
 use Rattle.meaning.specs.Tracked.{has_field, Placed, placed, Local}
 use Rattle.meaning.specs.Uses.{Seen, is_cancel, is_own, tracked_kind}
 use Rattle.meaning.specs.Kept.{Element, owned, field_value, kept_in, carried, kept_element, keeps_by_mark, keeps_there, is_of_body}
@@ -141,7 +141,7 @@ pub no_mark : (s : Seen) (bs : List BodyPlace) (m : KeptMark) (g : Gathered)
     → GathersMark s bs (mark_view m) g g
 no_mark s bs (Mentions n) g mention field = absurd (mention n refl)
 no_mark s bs (OfFields site f) g mention field = absurd (field site f refl)
-no_mark s bs (DefersLiteral site at) g mention field = gathers_nothing s bs _ g refl refl
+no_mark s bs (RunsLiteral moment site at) g mention field = gathers_nothing s bs _ g refl refl
 no_mark s bs (Returns at es) g mention field = gathers_nothing s bs _ g refl refl
 no_mark s bs (Opens b) g mention field = gathers_nothing s bs _ g refl refl
 no_mark s bs Closes g mention field = gathers_nothing s bs _ g refl refl
@@ -160,7 +160,7 @@ pub nothing_kept : (s : Seen) (bs : List BodyPlace) (m : KeptMark) → ((n : Kep
     → ((site : ℕ) (f : Bor KeptField) → m ≡ OfFields site f → ⊥) → [] ≡ keeps_there s bs (mark_view m)
 nothing_kept s bs (Mentions n) mention field = absurd (mention n refl)
 nothing_kept s bs (OfFields site f) mention field = absurd (field site f refl)
-nothing_kept s bs (DefersLiteral site at) mention field = refl
+nothing_kept s bs (RunsLiteral moment site at) mention field = refl
 nothing_kept s bs (Returns at es) mention field = refl
 nothing_kept s bs (Opens b) mention field = refl
 nothing_kept s bs Closes mention field = refl
@@ -173,7 +173,7 @@ module _ (s : Seen) (bs : List BodyPlace) where
   unfolding placed
   keeps-mark (mentions m) ms = refl
   keeps-mark (of_fields site m) ms = refl
-  keeps-mark (defers_literal site at) ms = refl
+  keeps-mark (runs_literal moment site at) ms = refl
   keeps-mark (returns at es) ms = refl
   keeps-mark (opens b) ms = refl
   keeps-mark closes ms = refl
@@ -184,7 +184,7 @@ module _ (s : Seen) (bs : List BodyPlace) where
   unfolding placed
   writes-mark (mentions m) ms = refl
   writes-mark (of_fields site m) ms = refl
-  writes-mark (defers_literal site at) ms = refl
+  writes-mark (runs_literal moment site at) ms = refl
   writes-mark (returns at es) ms = refl
   writes-mark (opens b) ms = refl
   writes-mark closes ms = refl

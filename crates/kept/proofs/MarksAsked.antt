@@ -6,7 +6,7 @@ use Rattle.tree.proofs.Depths.{drop_item}
 use Rattle.mentions.specs.declared.mark.BodyPlace.{BodyPlace as KeptBody}
 use Rattle.mentions.specs.declared.mark.Mark.{Mark as KeptMark}
 use Rattle.mentions.specs.MarkViews.{body_view, mark_view, marks_view}
-use Rattle.meaning.specs.Mentions.{BodyPlace, Mark, mentions, of_fields, defers_literal, returns, opens, closes}
+use Rattle.meaning.specs.Mentions.{BodyPlace, Mark, mentions, of_fields, runs_literal, returns, opens, closes}
 use Rattle.meaning.specs.Tracked.{Placed, placed, outer}
 use Rattle.tracked.specs.LocalViews.{bodies_at}
 
@@ -18,7 +18,7 @@ module _ (test : Mark → Bool) (quiet : test closes ≡ false) where
   any_placed bs [] = refl
   any_placed bs (mentions m ∷ ms) = ap (λ b. test (mentions m) || b) (any_placed bs ms)
   any_placed bs (of_fields site m ∷ ms) = ap (λ b. test (of_fields site m) || b) (any_placed bs ms)
-  any_placed bs (defers_literal site at ∷ ms) = ap (λ b. test (defers_literal site at) || b) (any_placed bs ms)
+  any_placed bs (runs_literal moment site at ∷ ms) = ap (λ b. test (runs_literal moment site at) || b) (any_placed bs ms)
   any_placed bs (returns at es ∷ ms) = ap (λ b. test (returns at es) || b) (any_placed bs ms)
   any_placed bs (opens o ∷ ms) = ap (λ b. test (opens o) || b) (any_placed (o ∷ bs) ms)
   any_placed bs (closes ∷ ms) = any_placed (outer bs) ms ∙ ap (λ b. b || list_any test ms) (sym quiet)
@@ -30,7 +30,7 @@ module _ (test : List BodyPlace → Mark → Bool) (quiet : (bs : List BodyPlace
   unfolding placed
   any-mark bs (mentions m) ms = refl
   any-mark bs (of_fields site m) ms = refl
-  any-mark bs (defers_literal site at) ms = refl
+  any-mark bs (runs_literal moment site at) ms = refl
   any-mark bs (returns at es) ms = refl
   any-mark bs (opens b) ms = refl
   any-mark bs closes ms =

@@ -7,7 +7,7 @@ use Rattle.tree.specs.declared.expression.Expr.{Expr}
 use Rattle.tree.specs.Syntax.{missing_expression}
 use Rattle.tree.specs.View.{expression_syntax, expressions_syntax}
 use Rattle.mentions.specs.declared.mark.Mark.{Mark as KeptMark}
-use Rattle.mentions.specs.declared.mark.Mark.TheVariants.{Mentions, OfFields, DefersLiteral, Returns, Opens, Closes}
+use Rattle.mentions.specs.declared.mark.Mark.TheVariants.{Mentions, OfFields, RunsLiteral, Returns, Opens, Closes}
 use Rattle.mentions.specs.declared.mark.Mention.{Mention as KeptMention}
 use Rattle.mentions.specs.declared.mark.FieldMark.{FieldMark as KeptField}
 use Rattle.mentions.specs.declared.mark.FieldMark.TheVariants.{CallsField, WritesField, HandsOver, HandsLiteral, Renews, ImportsAll}
@@ -60,7 +60,7 @@ pub none_given_there : (known : Known) (m : KeptMark) → ((site : ℕ) (f : Bor
 none_given_there known (OfFields site f) field items = absurd (field site f refl)
 none_given_there known (Returns at es) field items = absurd (items at es refl)
 none_given_there known (Mentions n) field items = refl
-none_given_there known (DefersLiteral site at) field items = refl
+none_given_there known (RunsLiteral moment site at) field items = refl
 none_given_there known (Opens b) field items = refl
 none_given_there known Closes field items = refl
 
@@ -68,7 +68,7 @@ pub no_mention_given : (s : Seen) (x : ℕ) (m : KeptMark) → ((n : KeptMention
     → false ≡ is_place_given s x (mark_view m)
 no_mention_given s x (Mentions n) mention = absurd (mention n refl)
 no_mention_given s x (OfFields site f) mention = refl
-no_mention_given s x (DefersLiteral site at) mention = refl
+no_mention_given s x (RunsLiteral moment site at) mention = refl
 no_mention_given s x (Returns at es) mention = refl
 no_mention_given s x (Opens b) mention = refl
 no_mention_given s x Closes mention = refl
@@ -92,7 +92,7 @@ no_names_brought (Renews number) not = refl
 pub no_import : (m : KeptMark) → ((site : ℕ) (f : Bor KeptField) → m ≡ OfFields site f → ⊥) → false ≡ is_of_import (mark_view m)
 no_import (OfFields site f) field = absurd (field site f refl)
 no_import (Mentions n) field = refl
-no_import (DefersLiteral site at) field = refl
+no_import (RunsLiteral moment site at) field = refl
 no_import (Returns at es) field = refl
 no_import (Opens b) field = refl
 no_import Closes field = refl

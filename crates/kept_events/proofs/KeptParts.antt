@@ -11,7 +11,7 @@ use Rattle.meaning.specs.KeepingFields.{carried_field, carried_fields, gift_elem
 use Rattle.tree.specs.declared.expression.Expr.{Expr}
 use Rattle.tree.specs.Syntax.{Expression, Expressions, expression_and, missing_expression}
 use Rattle.mentions.specs.declared.mark.Mark.{Mark as KeptMark}
-use Rattle.mentions.specs.declared.mark.Mark.TheVariants.{Mentions, OfFields, DefersLiteral, Returns, Opens, Closes}
+use Rattle.mentions.specs.declared.mark.Mark.TheVariants.{Mentions, OfFields, RunsLiteral, Returns, Opens, Closes}
 use Rattle.mentions.specs.declared.mark.Mention.{Mention as KeptMention}
 use Rattle.mentions.specs.declared.mark.FieldMark.{FieldMark as KeptField}
 use Rattle.mentions.specs.declared.mark.FieldMark.TheVariants.{CallsField, WritesField, HandsOver, HandsLiteral, Renews, ImportsAll}
@@ -117,7 +117,7 @@ pub no_object : (s : Seen) (bs : List BodyPlace) (m : KeptMark) → ((n : KeptMe
     → ((site : ℕ) (f : Bor KeptField) → m ≡ OfFields site f → ⊥) → [] ≡ object_part s bs (mark_view m)
 no_object s bs (Mentions n) mention field = absurd (mention n refl)
 no_object s bs (OfFields site f) mention field = absurd (field site f refl)
-no_object s bs (DefersLiteral site at) mention field = refl
+no_object s bs (RunsLiteral moment site at) mention field = refl
 no_object s bs (Returns at es) mention field = refl
 no_object s bs (Opens b) mention field = refl
 no_object s bs Closes mention field = refl
@@ -126,7 +126,7 @@ pub no_obtained : (s : Seen) (m : KeptMark) → ((site : ℕ) (f : Bor KeptField
     → [] ≡ obtained_fields s (mark_view m)
 no_obtained s (OfFields site f) field = absurd (field site f refl)
 no_obtained s (Mentions n) field = refl
-no_obtained s (DefersLiteral site at) field = refl
+no_obtained s (RunsLiteral moment site at) field = refl
 no_obtained s (Returns at es) field = refl
 no_obtained s (Opens b) field = refl
 no_obtained s Closes field = refl
@@ -136,7 +136,7 @@ pub no_given : (s : Seen) (m : KeptMark) → ((site : ℕ) (f : Bor KeptField) �
 no_given s (OfFields site f) field returned = absurd (field site f refl)
 no_given s (Returns at es) field returned = absurd (returned at es refl)
 no_given s (Mentions n) field returned = refl
-no_given s (DefersLiteral site at) field returned = refl
+no_given s (RunsLiteral moment site at) field returned = refl
 no_given s (Opens b) field returned = refl
 no_given s Closes field returned = refl
 

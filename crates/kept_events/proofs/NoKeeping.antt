@@ -3,7 +3,7 @@ use Rattle.std.proofs.Common.{◌≡◌, ℕ, Bool, true, false, true≢false, n
 use Rattle.std.specs.Prelude.{◌==◌}
 use Rattle.std.specs.List.{filter}
 use Rattle.tree.specs.Syntax.{Expression, missing_expression}
-use Rattle.meaning.specs.Mentions.{BodyPlace, Row, FieldLeft, Mention, Role, left, exposed, called, Call, calls_field, writes_field, hands_over, hands_literal, renews, imports_all, Mark, mentions, of_fields, defers_literal, returns, opens, closes}
+use Rattle.meaning.specs.Mentions.{BodyPlace, Row, FieldLeft, Mention, Role, left, exposed, called, Call, calls_field, writes_field, hands_over, hands_literal, renews, imports_all, Mark, mentions, of_fields, runs_literal, returns, opens, closes}
 use Rattle.meaning.specs.Tracked.{Known, Fields, each_field, these_fields, has_field, some_keep, Placed, variable_of, declared_by, row_giving}
 use Rattle.meaning.specs.Objects.{unaddressed, ObjectRow, object_row, object_rows_there, object_rows, object_left, object_in, local_named, type_at}
 use Rattle.meaning.specs.Uses.{Seen, found}
@@ -46,7 +46,7 @@ module _ (known : Known) (marks : List Placed) (none : (f : List ℕ) → has_fi
   no_row bs (of_fields site (renews number)) = refl
   no_row bs (of_fields site imports_all) = refl
   no_row bs (mentions m) = refl
-  no_row bs (defers_literal site at) = refl
+  no_row bs (runs_literal moment site at) = refl
   no_row bs (returns at es) = refl
   no_row bs (opens b) = refl
   no_row bs closes = refl
@@ -82,7 +82,7 @@ module _ (s : Seen) (none : (f : List ℕ) → has_field s.known.fields f ≡ fa
   no_mark bs (of_fields site (hands_literal taker at)) = refl
   no_mark bs (of_fields site (renews number)) = refl
   no_mark bs (of_fields site imports_all) = refl
-  no_mark bs (defers_literal site at) = refl
+  no_mark bs (runs_literal moment site at) = refl
   no_mark bs (returns at es) = refl
   no_mark bs (opens b) = refl
   no_mark bs closes = refl
@@ -145,7 +145,7 @@ module _ (s : Seen) (none : (f : List ℕ) → has_field s.known.fields f ≡ fa
       (first_mentions (in_order_of_place (mentioned_in s at))))
   no_objects bs (of_fields site (renews number)) = no_renewed bs (Some number)
   no_objects bs (of_fields site imports_all) = refl
-  no_objects bs (defers_literal site at) = refl
+  no_objects bs (runs_literal moment site at) = refl
   no_objects bs (returns at es) = refl
   no_objects bs (opens b) = refl
   no_objects bs closes = refl
@@ -174,7 +174,7 @@ module _ (s : Seen) (none : (f : List ℕ) → has_field s.known.fields f ≡ fa
   no_obtained (of_fields site (renews number)) = refl
   no_obtained (of_fields site imports_all) = refl
   no_obtained (mentions m) = refl
-  no_obtained (defers_literal site at) = refl
+  no_obtained (runs_literal moment site at) = refl
   no_obtained (returns at es) = refl
   no_obtained (opens b) = refl
   no_obtained closes = refl

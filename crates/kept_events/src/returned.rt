@@ -5,35 +5,22 @@ ghost use Rattle.facts.specs.FactViews.{cancel_result_view};
 ghost use Rattle.kept.specs.KeptViews.{keep_view};
 ghost use Rattle.kept_forms.specs.FormViews.{gift_view};
 ghost use Rattle.kept_events.specs.KeptEventViews.{handed_keeps, AddsHanded, KnowsHere};
-ghost use Rattle.meaning.specs.BodyEvents.{handed_at, handed_item, item_variable};
+ghost use Rattle.meaning.specs.BodyEvents.{handed_at, handed_item};
 ghost use Rattle.meaning.specs.Kept.{handed_field, handed_gift, handed_in_fields};
-ghost use Rattle.meaning.specs.Mentions.{as_bare};
 ghost use Rattle.mentions.specs.MarkViews.{body_view};
 ghost use Rattle.tracked.specs.LocalViews.{entry_view, local_view, seen_view, tracked_kind_of_entry, Sees};
-ghost use Rattle.tracked_rows.specs.RowViews.{known_view};
 ghost use Rattle.tree.specs.View.{expression_syntax};
 
 use crate::here::{Here, kept_there};
-use allowed_uses::is_given_as;
+use allowed_uses::{is_given_as, item_variable};
 use facts::{CancelResult, VariableKind};
 use kept::{Keep, carried};
 use kept_forms::{Gift, gifts};
-use mentions::as_bare;
 use objects::local_named;
 use std::alloc::{AllocError, Global};
 use tracked::{Seen, SeenLocal, tracked_kind};
-use tracked_rows::{Handed, Known, local_meant};
+use tracked_rows::Handed;
 use tree::Expr;
-
-/// The variable that an item of a return names.
-fn item_variable(known: Known<'_, '_>, value: &Expr) -> Option<u32>
-    ensures { result ≡ item_variable (known_view known.entry) (as_bare (expression_syntax value.now)) }
-{
-    match as_bare(value) {
-        Some(named) => local_meant(known, named.at, None),
-        None => None,
-    }
-}
 
 /// Adds a local that an item of a return names, if the return hands it on.
 fn add_local<'a>(

@@ -9,7 +9,7 @@ use Rattle.tree.proofs.Depths.{drop_item}
 use Rattle.mentions.specs.declared.mark.BodyPlace.{BodyPlace as KeptBody}
 use Rattle.mentions.specs.declared.mark.Mark.{Mark as KeptMark}
 use Rattle.mentions.specs.MarkViews.{body_view, mark_view, marks_view}
-use Rattle.meaning.specs.Mentions.{BodyPlace, Mark, mentions, of_fields, defers_literal, returns, opens, closes}
+use Rattle.meaning.specs.Mentions.{BodyPlace, Mark, mentions, of_fields, runs_literal, returns, opens, closes}
 use Rattle.meaning.specs.Tracked.{Known, Placed, placed}
 use Rattle.meaning.specs.Kept.{MentionAt, put_mention, in_order_of_place}
 use Rattle.tracked.specs.LocalViews.{bodies_at}
@@ -34,7 +34,7 @@ module _ (known : Known) (literal : ℕ) where
   unfolding placed
   mentioned-mark bs (mentions m) ms = refl
   mentioned-mark bs (of_fields site m) ms = refl
-  mentioned-mark bs (defers_literal site at) ms = refl
+  mentioned-mark bs (runs_literal moment site at) ms = refl
   mentioned-mark bs (returns at es) ms = refl
   mentioned-mark bs (opens b) ms = refl
   mentioned-mark bs closes ms = nothing_if (list_any (λ b. b.at == literal) (bodies_at bs closes)) _

@@ -7,7 +7,9 @@ ghost use Rattle.mentions.specs.MarkViews.{place_view, optional_call, standing_v
 ghost use Rattle.tree.specs.View.{expression_syntax, expressions_syntax, identifier_syntax, optional_statement_syntax};
 
 use crate::by_edition::{Told, Walk};
-use mentions::{Assigned, Call, CallPlace, LiteralUse, Mark, Spot, Standing, Taker, fields};
+use mentions::{
+    Assigned, Call, CallPlace, LiteralUse, Mark, Moment, Spot, Standing, Taker, fields,
+};
 use std::alloc::AllocError;
 use tree::{Edition, Expr, Identifier, Span, Stmt};
 
@@ -63,7 +65,7 @@ pub fn argument_given<'m, 'a>(
     }
 }
 
-/// A literal that is called under `defer` has an event of its own.
+/// A literal that is called under `defer` or `go` has a mark of its own.
 fn deferral<'m, 'a>(
     walk: &mut Walk<'m, 'a>,
     literal: LiteralUse<'a>,
@@ -73,7 +75,13 @@ fn deferral<'m, 'a>(
     ensures { OnOk result (AddsBy walk.old walk.new (deferral (use_view literal.entry) site at)) }
 {
     match literal {
-        LiteralUse::DeferredCall => walk.marks.push(Mark::DefersLiteral(site, at)),
+        LiteralUse::DeferredCall => walk
+            .marks
+            .push(Mark::RunsLiteral(Moment::AtReturn, site, at)),
+        LiteralUse::CallUnderGo => {
+            walk.marks
+                .push(Mark::RunsLiteral(Moment::InGoroutine, site, at))
+        }
         LiteralUse::Other => Ok(()),
         LiteralUse::StartedBy(_) => Ok(()),
     }

@@ -4,9 +4,9 @@ use Rattle.std.specs.Prelude.{◌==◌, ◌||◌}
 use Rattle.std.proofs.lemmas.Bool.Decides.{eqb_tells}
 use Rattle.std.specs.List.{list_any}
 use Rattle.meaning.specs.Code.{Occurrence}
-use Rattle.meaning.specs.Uses.{Event, other, obtain, obtain_kept, renew, keep, call_kept, defer_kept, give, give_field, clear, call, defer_call, pass, defer_pass, lend, start, try, wait, defer_wait, make, defer_literal, return_event}
+use Rattle.meaning.specs.Uses.{Work, go_call, go_pass, go_literal, Event, other, obtain, obtain_kept, renew, keep, call_kept, defer_kept, give, give_field, clear, call, defer_call, pass, defer_pass, lend, start, try, wait, defer_wait, make, defer_literal, go, return_event}
 use Rattle.meaning.specs.Classes.{Promises, CancelClass, opened, kept, safe, unset, change_cancel, cancel_after}
-use Rattle.meaning.specs.KeptLaws.{touches, is_of_object, KeptIsOwed}
+use Rattle.meaning.specs.KeptLaws.{takes_over, touches, is_of_object, KeptIsOwed}
 
 same : (k : CancelClass) (b : Bool) → (if b then k else k) ≡ k
 same k true = refl
@@ -14,6 +14,13 @@ same k false = refl
 
 or_other : (k l : CancelClass) (b : Bool) → b ≡ false → (if b then l else k) ≡ k
 or_other k l b h = ap (λ c. if c then l else k) h
+
+not_taken : (p : Promises) (v : ℕ) (work : Work)
+    → takes_over p v work ≡ false
+    → change_cancel p v (go work) kept ≡ kept
+not_taken p v (go_call u) h = or_other kept safe _ h
+not_taken p v (go_pass f xs) h = or_other kept safe _ h
+not_taken p v (go_literal literal) h = or_other kept safe _ h
 
 stays_kept : (p : Promises) (v : ℕ) (e : Event) → touches p v e ≡ false → change_cancel p v e kept ≡ kept
 stays_kept p v other h = refl
@@ -38,6 +45,7 @@ stays_kept p v (wait g) h = refl
 stays_kept p v (defer_wait g) h = refl
 stays_kept p v (make g state) h = refl
 stays_kept p v (defer_literal literal) h = or_other kept safe _ h
+stays_kept p v (go work) h = not_taken p v work h
 stays_kept p v (return_event handed) h = refl
 
 neither : (a b : Bool) → (a || b) ≡ false → (a ≡ false) × (b ≡ false)
@@ -77,6 +85,7 @@ stays_open p v (wait g) h = absurd (true≢false (sym h))
 stays_open p v (defer_wait g) h = absurd (true≢false (sym h))
 stays_open p v (make g state) h = absurd (true≢false (sym h))
 stays_open p v (defer_literal literal) h = absurd (true≢false (sym h))
+stays_open p v (go work) h = absurd (true≢false (sym h))
 stays_open p v (return_event handed) h = absurd (true≢false (sym h))
 
 pub kept_is_owed : KeptIsOwed

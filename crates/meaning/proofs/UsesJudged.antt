@@ -5,7 +5,7 @@ use Rattle.std.proofs.lemmas.Bool.Decides.{eqb_tells}
 use Rattle.tree.specs.declared.edition.Edition.{Edition}
 use Rattle.tree.specs.declared.edition.Edition.TheVariants.{First, Second}
 use Rattle.meaning.specs.FunctionFacts.{VariableKind, cancel, group}
-use Rattle.meaning.specs.Mentions.{BodyPlace, Row, Role, elsewhere, as_key, exposed, pointed_to, found_nil, found_error, called, called_in_brackets, argument, returned, left, names_type, new_literal, parameter_pointer, Mention, Mark, mentions, of_fields, defers_literal, returns, opens, closes}
+use Rattle.meaning.specs.Mentions.{BodyPlace, Row, Role, elsewhere, as_key, exposed, pointed_to, found_nil, found_error, called, called_in_brackets, argument, returned, left, names_type, new_literal, parameter_pointer, Mention, Mark, mentions, of_fields, runs_literal, returns, opens, closes}
 use Rattle.meaning.specs.Tracked.{Local, kind_of_local}
 use Rattle.meaning.specs.Uses.{Seen, may_be_tracked, tracked_kind, kind_of, Binding, binding_at, Event, kind_use, cancel_type_of, cancel_use_by, group_use, use_outcome, mention_outcome, row_outcome, role_outcome, local_outcome, variable_outcome}
 use Rattle.meaning.specs.BodyEvents.{mark_events, is_site}
@@ -91,7 +91,7 @@ a_site : (seen : Seen) (bodies : List BodyPlace) (m : Mark) → (mark_events see
     → (at : ℕ) × (is_site m at ≡ true)
 a_site seen bodies (mentions m) some = (m.site, number_itself m.site)
 a_site seen bodies (of_fields site m) some = (site, number_itself site)
-a_site seen bodies (defers_literal site literal) some = (site, number_itself site)
+a_site seen bodies (runs_literal moment site literal) some = (site, number_itself site)
 a_site seen bodies (returns site es) some = (site, number_itself site)
 a_site seen bodies (opens b) some = absurd (some refl)
 a_site seen bodies closes some = absurd (some refl)
@@ -99,7 +99,7 @@ a_site seen bodies closes some = absurd (some refl)
 no_other_site : (m : Mark) (at other : ℕ) → is_site m at ≡ true → is_site m other ≡ true → at ≡ other
 no_other_site (mentions m) at other e f = sym (same_number m.site at e) ∙ same_number m.site other f
 no_other_site (of_fields site m) at other e f = sym (same_number site at e) ∙ same_number site other f
-no_other_site (defers_literal site literal) at other e f = sym (same_number site at e) ∙ same_number site other f
+no_other_site (runs_literal moment site literal) at other e f = sym (same_number site at e) ∙ same_number site other f
 no_other_site (returns site es) at other e f = sym (same_number site at e) ∙ same_number site other f
 no_other_site (opens b) at other e f = absurd (true≢false (sym e))
 no_other_site closes at other e f = absurd (true≢false (sym e))

@@ -13,10 +13,10 @@ use Rattle.meaning.specs.declared.TheConstants.{MOST_CANCELS, MOST_GROUPS}
 use Rattle.meaning.specs.OuterBlocks.{has_any}
 use Rattle.meaning.specs.Jumps.{jumps_in}
 use Rattle.meaning.specs.StatementCode.{Sites}
-use Rattle.meaning.specs.Mentions.{Named, as_bare, Role, called, Mention, BodyPlace, Mark, mentions, of_fields, defers_literal, returns, opens, closes, marks_by, file_marks}
-use Rattle.meaning.specs.FunctionFacts.{VariableKind, cancel, group, CancelResult}
+use Rattle.meaning.specs.Mentions.{Named, as_bare, Call, Role, called, is_none_left, Mention, BodyPlace, Moment, at_return, in_goroutine, Mark, mentions, of_fields, runs_literal, returns, opens, closes, marks_by, file_marks}
+use Rattle.meaning.specs.FunctionFacts.{cancel_type, VariableKind, cancel, group, CancelResult}
 use Rattle.meaning.specs.Tracked.{Known, some_keep, is_of_universe, local_meant_or, variable_of, Placed, LocalRole, parameter, receiver, variadic, result, in_block, Local, body_locals}
-use Rattle.meaning.specs.Uses.{Seen, seen_in, found, tracked_kind, cancel_type_of, is_given_as, is_outside, is_of_local, is_body, body_gives, is_statement_place, Handed, Event, other, defer_literal, return_event, goto_used, too_many_variables, UseFault, fault_at, error_events, variable_outcome, field_faults, mention_faults, recover_faults, result_faults, is_cancel}
+use Rattle.meaning.specs.Uses.{Seen, seen_in, found, tracked_kind, cancel_type_of, is_given_as, is_outside, is_of_local, is_body, body_gives, is_statement_place, is_under_go, takes, is_own, Callee, callee_of, Handed, Sent, go_pass, go_literal, Event, other, defer_literal, go, return_event, goto_used, too_many_variables, UseFault, fault_at, error_events, variable_outcome, field_faults, mention_faults, recover_faults, result_faults, is_cancel}
 use Rattle.meaning.specs.Kept.{object_events, field_events, handed_in_fields}
 
 -- Bodies of a file
@@ -24,7 +24,7 @@ use Rattle.meaning.specs.Kept.{object_events, field_events, handed_in_fields}
 abbrev pub opened_by : Mark → List BodyPlace
 opened_by (mentions m) = []
 opened_by (of_fields site m) = []
-opened_by (defers_literal site at) = []
+opened_by (runs_literal moment site at) = []
 opened_by (returns at es) = []
 opened_by (opens b) = b ∷ []
 opened_by closes = []
@@ -74,11 +74,61 @@ handed_on seen bodies k (expression_and e es) =
     handed_item seen (body_gives seen.known bodies) k e
     ++ (handed_in_fields seen bodies k e ++ handed_on seen bodies (k + 1) es)
 
+-- declared in a block, and no parameter
+abbrev pub is_in_block : LocalRole → Bool
+is_in_block (parameter k) = false
+is_in_block receiver = false
+is_in_block variadic = false
+is_in_block result = false
+is_in_block in_block = true
+
+-- What a function under `go` gets: cancel variables that the body declares, no parameters, at positions of their
+-- types. (Else a function that starts itself with what it got would be known to call it.)
+abbrev pub is_sent : Seen → List BodyPlace → Call → ℕ → Local → Bool
+is_sent seen bodies c k l =
+    (is_own l bodies && is_in_block l.role)
+    && (is_cancel (tracked_kind seen (Some l)) && takes seen.known c (cancel_type (cancel_type_of seen l)) k)
+
+abbrev pub sent_there : Seen → List BodyPlace → Call → ℕ → Option Local → List Sent
+sent_there seen bodies c k None = []
+sent_there seen bodies c k (Some l) =
+    if is_sent seen bodies c k l then record { number = l.number; position = k } ∷ [] else []
+
+-- under `...` the last argument is at no position
+abbrev pub sent_from : Seen → List BodyPlace → Call → ℕ → Expressions → List Sent
+sent_from seen bodies c k no_expression = []
+sent_from seen bodies c k (expression_and e es) =
+    (if is_none_left es && c.has_ellipsis then []
+    else sent_there seen bodies c k (found seen (item_variable seen.known (as_bare e))))
+    ++ sent_from seen bodies c (k + 1) es
+
+abbrev pub function_sent : Callee → List Sent → List Event
+function_sent f [] = []
+function_sent f (x ∷ xs) = go (go_pass f (x ∷ xs)) ∷ []
+
+abbrev pub sent_in_role : Seen → List BodyPlace → Role → List Event
+sent_in_role seen bodies (called c) =
+    if is_under_go c.place
+    then function_sent (callee_of seen.known c.callee) (sent_from seen bodies c 0 c.arguments)
+    else []
+sent_in_role seen bodies role = []
+
+abbrev pub sent_events : Edition → Seen → List BodyPlace → Mention → List Event
+sent_events First seen bodies m = []
+sent_events Second seen bodies m = sent_in_role seen bodies m.role
+
+-- in the first edition a literal under `go` sees to nothing
+abbrev pub literal_events : Edition → Moment → ℕ → List Event
+literal_events e at_return at = defer_literal at ∷ []
+literal_events First in_goroutine at = []
+literal_events Second in_goroutine at = go (go_literal at) ∷ []
+
 abbrev pub mark_events : Seen → List BodyPlace → Mark → List Event
 mark_events seen bodies (mentions m) =
-    (variable_outcome seen bodies m).events ++ (error_events seen m m.role ++ object_events seen bodies m)
+    (variable_outcome seen bodies m).events
+    ++ (error_events seen m m.role ++ (object_events seen bodies m ++ sent_events seen.known.edition seen bodies m))
 mark_events seen bodies (of_fields site m) = field_events seen bodies (of_fields site m) m
-mark_events seen bodies (defers_literal site at) = defer_literal at ∷ []
+mark_events seen bodies (runs_literal moment site at) = literal_events seen.known.edition moment at
 mark_events seen bodies (returns at es) = return_event (handed_on seen bodies 0 es) ∷ []
 mark_events seen bodies (opens b) = []
 mark_events seen bodies closes = []
@@ -86,7 +136,7 @@ mark_events seen bodies closes = []
 abbrev pub is_site : Mark → ℕ → Bool
 is_site (mentions m) at = m.site == at
 is_site (of_fields site m) at = site == at
-is_site (defers_literal site literal) at = site == at
+is_site (runs_literal moment site literal) at = site == at
 is_site (returns site es) at = site == at
 is_site (opens b) at = false
 is_site closes at = false
@@ -150,7 +200,7 @@ lesser m n = if nat_le m n then m else n
 abbrev pub occurrence : Mark → ℕ
 occurrence (mentions m) = m.named.at
 occurrence (of_fields site m) = site
-occurrence (defers_literal site at) = at
+occurrence (runs_literal moment site at) = at
 occurrence (returns at es) = at
 occurrence (opens b) = b.at
 occurrence closes = 0
@@ -291,7 +341,7 @@ mark_faults seen bodies (mentions m) =
     mention_faults seen bodies m
     ++ (if forbids_recover seen.known.edition seen bodies then recover_faults seen.known m else [])
 mark_faults seen bodies (of_fields site m) = field_faults seen m
-mark_faults seen bodies (defers_literal site at) = []
+mark_faults seen bodies (runs_literal moment site at) = []
 mark_faults seen bodies (returns at es) = []
 mark_faults seen bodies (opens b) = result_faults (body_locals seen.known b) ++ jump_faults seen b
 mark_faults seen bodies closes = []

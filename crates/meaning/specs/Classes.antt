@@ -1,13 +1,15 @@
 -- What is known of a tracked variable after a list of a body's events. A cancel variable is unset, or open (it holds a
 -- cancel function that was not called), or kept (the newest object of a declaration holds that function in a field, and
 -- was not given to others yet), or safe (its function was called, or its call is saved for the return, or others got it
--- in a field), or pending in a group (a literal that the group started calls it). A group is unmade, idle or live (its
+-- in a field, or a goroutine that was started sees to it), or pending in a group (a literal that the group started
+-- calls it). A group is unmade, idle (its work has ended, or a goroutine that was started waits for it) or live (its
 -- work may go on), or awaited (a Wait is saved for the return). Each variable is followed by itself.
 -- (The documentation of `context` and `golang.org/x/sync/errgroup`.)
 use Rattle.std.specs.Prelude.{ℕ, ◌==◌, ◌&&◌, Bool, if◌then◌else◌, List, [], ◌∷◌, Option, Some, None}
+use Rattle.std.specs.List.{list_any}
 use Rattle.meaning.specs.Code.{Occurrence}
 use Rattle.meaning.specs.Tracked.{GroupState, idle, live}
-use Rattle.meaning.specs.Uses.{Callee, Event, other, obtain, obtain_kept, renew, keep, call_kept, defer_kept, give, give_field, clear, call, defer_call, pass, defer_pass, lend, start, try, wait, defer_wait, make, defer_literal, return_event}
+use Rattle.meaning.specs.Uses.{Callee, Work, go_call, go_pass, go_literal, Event, other, obtain, obtain_kept, renew, keep, call_kept, defer_kept, give, give_field, clear, call, defer_call, pass, defer_pass, lend, start, try, wait, defer_wait, make, defer_literal, go, return_event}
 use Rattle.meaning.specs.BodyEvents.{VariableRole, own_parameter, own_receiver, declared_in_body, captured}
 
 -- what a body relies on: of functions, and of the literals of its own file
@@ -86,6 +88,20 @@ settled_from_open kept = kept
 settled_from_open safe = safe
 settled_from_open (pending g) = pending g
 
+-- a literal under `go` waits for the group, so what is pending in it is settled with it
+abbrev pub waited_over : Promises → ℕ → CancelClass → CancelClass
+waited_over p literal unset = unset
+waited_over p literal opened = opened
+waited_over p literal kept = kept
+waited_over p literal safe = safe
+waited_over p literal (pending g) = if p.credits literal g then safe else pending g
+
+-- a goroutine starts, which may see to the call
+abbrev pub taken_over : Promises → ℕ → Work → CancelClass → CancelClass
+taken_over p v (go_call u) k = if u == v then safe else k
+taken_over p v (go_pass f xs) k = if list_any (λ x. (x.number == v) && p.calls f x.position) xs then safe else k
+taken_over p v (go_literal literal) k = if p.credits literal v then safe else waited_over p literal k
+
 -- the class of the cancel variable v after an event, where it was k before
 abbrev pub change_cancel : Promises → ℕ → Event → CancelClass → CancelClass
 change_cancel p v other k = k
@@ -109,6 +125,7 @@ change_cancel p v (wait g) k = ended g k
 change_cancel p v (defer_wait g) k = k
 change_cancel p v (make g state) k = ended g.number k
 change_cancel p v (defer_literal literal) k = if p.credits literal v then safe else k
+change_cancel p v (go work) k = taken_over p v work k
 change_cancel p v (return_event handed) k = k
 
 -- the class of v after a list of events, where it was k before
@@ -144,6 +161,12 @@ at_rest (in_state idle) = in_state idle
 at_rest (in_state live) = in_state idle
 at_rest awaited = awaited
 
+-- a goroutine starts, which may wait for it
+abbrev pub waited_by : Promises → ℕ → Work → GroupClass → GroupClass
+waited_by p v (go_call u) k = k
+waited_by p v (go_pass f xs) k = k
+waited_by p v (go_literal literal) k = if p.credits literal v then at_rest k else k
+
 -- the class of the group variable v after an event, where it was k before
 abbrev pub change_group : Promises → ℕ → Event → GroupClass → GroupClass
 change_group p v other k = k
@@ -167,6 +190,7 @@ change_group p v (wait g) k = if g == v then at_rest k else k
 change_group p v (defer_wait g) k = if g == v then awaited else k
 change_group p v (make g state) k = if g.number == v then in_state state else k
 change_group p v (defer_literal literal) k = if p.credits literal v then awaited else k
+change_group p v (go work) k = waited_by p v work k
 change_group p v (return_event handed) k = k
 
 -- the class of v after a list of events, where it was k before

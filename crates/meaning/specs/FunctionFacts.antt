@@ -13,7 +13,7 @@ use Rattle.tree.specs.declared.edition.Edition.TheVariants.{First, Second}
 use Rattle.tree.specs.Syntax.{Identifier, Expression, Expressions, no_expression, expression_and, OptionalExpression, missing_expression, present_expression, Signature, signature_of, Parameters, no_parameter, named_and, unnamed_and, name_alone_and, Block, Function, TopLevelDeclaration, function_declaration, general_declaration, SourceFile}
 use Rattle.meaning.specs.Declarations.{Meaning, local_name, import_name, function_name, package_name, universe_name}
 use Rattle.meaning.specs.OuterBlocks.{can_be_meant, or_else}
-use Rattle.meaning.specs.Mentions.{Named, as_bare, as_named, as_pointer, Mark, mentions, of_fields, defers_literal, returns, opens, closes, statements_marks}
+use Rattle.meaning.specs.Mentions.{Named, as_bare, as_named, as_pointer, Mark, mentions, of_fields, runs_literal, returns, opens, closes, statements_marks}
 
 -- what the use at an offset of a file means
 abbrev pub Meanings : Type 0
@@ -207,7 +207,7 @@ abbrev pub own_returns : ℕ → List Mark → List (List Expression)
 own_returns literals [] = []
 own_returns literals (mentions m ∷ ms) = own_returns literals ms
 own_returns literals (of_fields site m ∷ ms) = own_returns literals ms
-own_returns literals (defers_literal site at ∷ ms) = own_returns literals ms
+own_returns literals (runs_literal moment site at ∷ ms) = own_returns literals ms
 own_returns literals (opens b ∷ ms) = own_returns (suc literals) ms
 own_returns zero (returns at es ∷ ms) = listed es ∷ own_returns zero ms
 own_returns (suc n) (returns at es ∷ ms) = own_returns (suc n) ms

@@ -4,8 +4,14 @@
 use Rattle.std.specs.Prelude.{ℕ, ◌≡◌, ◌==◌, Bool, true, false, ◌&&◌, List}
 use Rattle.std.specs.List.{list_any}
 use Rattle.meaning.specs.Code.{Occurrence}
-use Rattle.meaning.specs.Uses.{Event, obtain, obtain_kept, renew, keep, call_kept, defer_kept, give, clear, call, defer_call, pass, defer_pass, defer_literal}
+use Rattle.meaning.specs.Uses.{Work, go_call, go_pass, go_literal, Event, obtain, obtain_kept, renew, keep, call_kept, defer_kept, give, clear, call, defer_call, pass, defer_pass, defer_literal, go}
 use Rattle.meaning.specs.Classes.{Promises, opened, kept, change_cancel, cancel_after}
+
+-- the goroutine that starts sees to what the variable holds
+abbrev pub takes_over : Promises → ℕ → Work → Bool
+takes_over p v (go_call u) = u == v
+takes_over p v (go_pass f xs) = list_any (λ x. (x.number == v) && p.calls f x.position) xs
+takes_over p v (go_literal literal) = p.credits literal v
 
 -- the event calls what the variable or its object holds, binds it, gives it to others, or makes the object anew
 abbrev pub touches : Promises → ℕ → Event → Bool
@@ -21,6 +27,7 @@ touches p v (defer_call u) = u == v
 touches p v (pass u f n) = (u.number == v) && p.calls f n
 touches p v (defer_pass u f n) = (u.number == v) && p.calls f n
 touches p v (defer_literal literal) = p.credits literal v
+touches p v (go work) = takes_over p v work
 touches p v e = false
 
 -- it is about the object in which a variable is kept

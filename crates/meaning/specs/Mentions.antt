@@ -149,6 +149,8 @@ pub data LiteralUse : Type 0 where
   other_use : LiteralUse
   -- defer func(..) { .. }(..)
   deferred_call : LiteralUse
+  -- go func(..) { .. }(..)
+  call_under_go : LiteralUse
   -- the argument of `g.Go` or `g.TryGo`
   started_by : Named → LiteralUse
 
@@ -159,6 +161,7 @@ argument_use (Some c) =
 
 abbrev pub callee_use : CallPlace → LiteralUse
 callee_use deferred = deferred_call
+callee_use under_go = call_under_go
 callee_use place = other_use
 
 -- Marks
@@ -255,12 +258,17 @@ pub data FieldMark : Type 0 where
   -- an import of the file brings names that aren't written
   imports_all : FieldMark
 
+-- when a literal runs that a statement calls: at the return, or in a goroutine of its own
+pub data Moment : Type 0 where
+  at_return : Moment
+  in_goroutine : Moment
+
 pub data Mark : Type 0 where
   mentions : Mention → Mark
   -- with its site
   of_fields : ℕ → FieldMark → Mark
-  -- a literal is called under `defer`: the offsets of the statement and of the literal
-  defers_literal : ℕ → ℕ → Mark
+  -- a literal is called under `defer` or `go`: the offsets of the statement and of the literal
+  runs_literal : Moment → ℕ → ℕ → Mark
   -- a return, its offset and its items
   returns : ℕ → Expressions → Mark
   opens : BodyPlace → Mark
@@ -496,7 +504,8 @@ new_literal_or (only_value row) site n marks = named_or n site (new_literal row)
 new_literal_or place site n marks = marks
 
 abbrev pub deferral : LiteralUse → ℕ → ℕ → List Mark
-deferral deferred_call site at = defers_literal site at ∷ []
+deferral deferred_call site at = runs_literal at_return site at ∷ []
+deferral call_under_go site at = runs_literal in_goroutine site at ∷ []
 deferral used site at = []
 
 abbrev pub literal_body : LiteralUse → ℕ → Signature → Statements → Span → BodyPlace

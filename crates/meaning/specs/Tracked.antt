@@ -16,7 +16,7 @@ use Rattle.tree.specs.Syntax.{Identifier, Expression, expression_node, name_expr
 use Rattle.meaning.specs.Scopes.{is_blank}
 use Rattle.meaning.specs.OuterBlocks.{or_else, has_any}
 use Rattle.meaning.specs.Declarations.{Meaning, local_name, import_name, function_name, package_name, universe_name}
-use Rattle.meaning.specs.Mentions.{Named, bare, as_named, as_new_literal, RowForm, defines, assigns, declares, Standing, ordinary, first_of_for, communication, Row, Call, call_of, only_value, Role, left, Mention, BodyPlace, Mark, mentions, of_fields, defers_literal, returns, opens, closes, number_of}
+use Rattle.meaning.specs.Mentions.{Named, bare, as_named, as_new_literal, RowForm, defines, assigns, declares, Standing, ordinary, first_of_for, communication, Row, Call, call_of, only_value, Role, left, Mention, BodyPlace, Mark, mentions, of_fields, runs_literal, returns, opens, closes, number_of}
 use Rattle.meaning.specs.FunctionFacts.{Meanings, context_path, errgroup_path, is_of, is_of_some, CancelType, plain, with_cause, TrackedType, cancel_type, group_type, tracked_type, VariableKind, cancel, group, kind_of_type, Item, items_of, item_type, CancelResult, FunctionFacts}
 
 -- What is known
@@ -359,8 +359,8 @@ unfoldable pub placed : List BodyPlace → List Mark → List Placed
 placed bodies [] = []
 placed bodies (mentions m ∷ ms) = record { mark = mentions m; bodies = bodies } ∷ placed bodies ms
 placed bodies (of_fields site m ∷ ms) = record { mark = of_fields site m; bodies = bodies } ∷ placed bodies ms
-placed bodies (defers_literal site at ∷ ms) =
-    record { mark = defers_literal site at; bodies = bodies } ∷ placed bodies ms
+placed bodies (runs_literal moment site at ∷ ms) =
+    record { mark = runs_literal moment site at; bodies = bodies } ∷ placed bodies ms
 placed bodies (returns at es ∷ ms) = record { mark = returns at es; bodies = bodies } ∷ placed bodies ms
 placed bodies (opens b ∷ ms) = record { mark = opens b; bodies = b ∷ bodies } ∷ placed (b ∷ bodies) ms
 placed bodies (closes ∷ ms) = placed (outer bodies) ms
@@ -466,7 +466,7 @@ declared_local known m (b ∷ bs) (Some number) =
 abbrev pub locals_there : Known → List BodyPlace → Mark → List Local
 locals_there known bodies (mentions m) = declared_local known m bodies (declared_by known m)
 locals_there known bodies (of_fields site m) = []
-locals_there known bodies (defers_literal site at) = []
+locals_there known bodies (runs_literal moment site at) = []
 locals_there known bodies (returns at es) = []
 locals_there known bodies (opens b) = body_locals known b
 locals_there known bodies closes = []

@@ -13,7 +13,7 @@ use Rattle.tree.specs.Syntax.{Identifier, Expression, expression_node, parenthes
 use Rattle.meaning.specs.Scopes.{is_blank}
 use Rattle.meaning.specs.OuterBlocks.{is_init}
 use Rattle.meaning.specs.Declarations.{Meaning, import_name}
-use Rattle.meaning.specs.Mentions.{Named, as_bare, RowForm, defines, assigns, declares, Standing, ordinary, first_of_for, communication, Row, Call, CallPlace, nowhere, as_statement, only_value, return_item, deferred, under_go, Role, elsewhere, as_key, found_nil, found_error, called, called_in_brackets, argument, returned, left, names_type, new_literal, parameter_pointer, Mention, LiteralUse, other_use, deferred_call, started_by, BodyPlace, FieldMark, writes_field, Mark, mentions, of_fields, defers_literal, returns, opens, closes, is_none_left, expression_marks, part_of}
+use Rattle.meaning.specs.Mentions.{Named, as_bare, RowForm, defines, assigns, declares, Standing, ordinary, first_of_for, communication, Row, Call, CallPlace, nowhere, as_statement, only_value, return_item, deferred, under_go, Role, elsewhere, as_key, found_nil, found_error, called, called_in_brackets, argument, returned, left, names_type, new_literal, parameter_pointer, Mention, LiteralUse, other_use, deferred_call, call_under_go, started_by, BodyPlace, FieldMark, writes_field, Mark, mentions, of_fields, runs_literal, returns, opens, closes, is_none_left, expression_marks, part_of}
 use Rattle.meaning.specs.FunctionFacts.{errgroup_path, is_import, is_selected, CancelType, plain, with_cause, is_same_type, is_cancel_type, TrackedType, cancel_type, group_type, is_same_tracked, VariableKind, cancel, group, kind_of_type, TrackedParameter, CancelResult, Unless, FunctionFacts, items_of, cancel_results, listed}
 use Rattle.meaning.specs.Tracked.{Known, facts_of, is_universe, is_of_universe, is_maker, Giving, giving_of, local_meant_or, variable_of, declared_by, Left, left_local, lefts_of, local_at, is_blank_at, is_binding_form, may_bind, call_giving, call_in, only_call, row_giving, type_given, own_variable, is_outer_at, are_locals, row_obtains, GroupState, row_makes, Placed, placed, LocalRole, parameter, receiver, variadic, result, in_block, Local, find_local, locals_of, is_variable, kind_of_local}
 use Rattle.meaning.specs.Objects.{ObjectRow, object_rows, object_left, field_locals}
@@ -65,7 +65,7 @@ is_tracked seen number = is_some (tracked_kind seen (found seen number))
 abbrev pub names_tracked : Seen → Mark → Bool
 names_tracked seen (mentions m) = is_tracked seen (variable_of seen.known m)
 names_tracked seen (of_fields site m) = false
-names_tracked seen (defers_literal site at) = false
+names_tracked seen (runs_literal moment site at) = false
 names_tracked seen (returns at es) = false
 names_tracked seen (opens b) = false
 names_tracked seen closes = false
@@ -358,10 +358,30 @@ is_own l bodies = is_body l.body bodies
 abbrev pub is_deferred_use : LiteralUse → Bool
 is_deferred_use other_use = false
 is_deferred_use deferred_call = true
+is_deferred_use call_under_go = false
 is_deferred_use (started_by n) = false
+
+-- it is called under `defer` or `go`
+abbrev pub is_run : LiteralUse → Bool
+is_run other_use = false
+is_run deferred_call = true
+is_run call_under_go = true
+is_run (started_by n) = false
+
+-- under `go`
+abbrev pub goes_off : LiteralUse → Bool
+goes_off other_use = false
+goes_off deferred_call = false
+goes_off call_under_go = true
+goes_off (started_by n) = false
 
 abbrev pub is_deferred : BodyPlace → Bool
 is_deferred b = is_deferred_use b.literal
+
+-- a literal that runs once, where its statement is reached: in the first edition a deferred one alone
+abbrev pub runs_once : Edition → BodyPlace → Bool
+runs_once First b = is_deferred b
+runs_once Second b = is_run b.literal
 
 abbrev pub is_of_local : Local → Option ℕ → Bool
 is_of_local l None = false
@@ -370,6 +390,7 @@ is_of_local l (Some number) = number == l.number
 abbrev pub is_started_by_it : Known → Local → LiteralUse → Bool
 is_started_by_it known l other_use = false
 is_started_by_it known l deferred_call = false
+is_started_by_it known l call_under_go = false
 is_started_by_it known l (started_by n) = is_of_local l (local_meant_or (known.means n.at) None)
 
 -- the literal is the argument of Go or TryGo of that variable
@@ -409,6 +430,18 @@ pub record VariableAt : Type 0 where
   pub number : ℕ
   pub at : ℕ
 
+-- a variable that a function under `go` gets, and the position of the argument
+pub record Sent : Type 0 where
+  pub number : ℕ
+  pub position : ℕ
+
+-- what a `go` statement starts: a call of what the variable holds, a function that gets some, or the literal at that
+-- offset, which may see to what it captures
+pub data Work : Type 0 where
+  go_call : ℕ → Work
+  go_pass : Callee → List Sent → Work
+  go_literal : ℕ → Work
+
 pub data Event : Type 0 where
   other : Event
   -- the variable, the function whose result it obtains, the result's number, and whether the variable is declared there
@@ -440,6 +473,8 @@ pub data Event : Type 0 where
   defer_wait : ℕ → Event
   make : VariableAt → GroupState → Event
   defer_literal : ℕ → Event
+  -- a goroutine starts
+  go : Work → Event
   -- the variables that are handed on, each with its position
   return_event : List Handed → Event
 
@@ -480,6 +515,14 @@ is_deferred_place under_go = false
 
 abbrev pub is_statement_or_value : CallPlace → Bool
 is_statement_or_value p = is_statement_place p || is_value_place p
+
+abbrev pub is_under_go : CallPlace → Bool
+is_under_go nowhere = false
+is_under_go as_statement = false
+is_under_go (only_value row) = false
+is_under_go (return_item k) = false
+is_under_go deferred = false
+is_under_go under_go = true
 
 -- a statement, an only value, or an item of a return list
 abbrev pub is_call_place : CallPlace → Bool
@@ -571,6 +614,17 @@ cancel_use known t l bodies m (found_nil nil) = Some (if is_universe (known.mean
 cancel_use known t l bodies m (found_error nil row) = Some []
 cancel_use known t l bodies m role = None
 
+-- `go c()`, or `go c(e)` where it takes a cause; in literals too
+abbrev pub call_taken_on : CancelType → ℕ → Option (List ℕ) → Call → Option (List Event)
+call_taken_on t v (Some m) c = None
+call_taken_on t v None c =
+    allowed_if (has_its_arguments t c && is_under_go c.place) (go (go_call v) ∷ [])
+
+-- In the second edition a goroutine may call it.
+abbrev pub taken_on : CancelType → Local → Mention → Role → Option (List Event)
+taken_on t l m (called c) = call_taken_on t l.number m.named.selected c
+taken_on t l m role = None
+
 -- In the second edition the variable may be read anywhere: its function may be called by several and more than once, so
 -- that a copy takes nothing away from who has to call it. A call with other arguments than its own is no read.
 abbrev pub is_read : CancelType → Role → Option (List ℕ) → Bool
@@ -586,7 +640,8 @@ abbrev pub cancel_use_by
     : Edition → Known → CancelType → Local → List BodyPlace → Mention → Role → Option (List Event)
 cancel_use_by First known t l bodies m role = cancel_use known t l bodies m role
 cancel_use_by Second known t l bodies m role =
-    either_use (cancel_use known t l bodies m role) (allowed_if (is_read t role m.named.selected) [])
+    either_use (cancel_use known t l bodies m role)
+    (either_use (taken_on t l m role) (allowed_if (is_read t role m.named.selected) []))
 
 abbrev pub literal_at : Expression → Option ℕ
 literal_at (expression_node (function_literal signature ss braces) span) = Some span.start
@@ -613,13 +668,13 @@ group_tried seen l bodies c = allowed_if
     (is_statement_or_value c.place && (is_free seen (only_argument c) && are_members seen.known l bodies))
     (try l.number (started_literal (only_argument c)) ∷ [])
 
--- `g.Wait()` at a call place, and under `defer`; in literals where each one between is deferred, and not as an item
-abbrev pub group_awaited : Local → List BodyPlace → Call → Option (List Event)
-group_awaited l bodies c = either_use
+-- `g.Wait()` at a call place, and under `defer`; in literals where each one between runs once, and not as an item
+abbrev pub group_awaited : Edition → Local → List BodyPlace → Call → Option (List Event)
+group_awaited e l bodies c = either_use
     (allowed_if (has_no_argument c && ((is_statement_or_value c.place || (is_item_place c.place && is_own l bodies))
-    && list_all is_deferred (literals_between l.body bodies))) (wait l.number ∷ []))
+    && list_all (runs_once e) (literals_between l.body bodies))) (wait l.number ∷ []))
     (allowed_if (has_no_argument c && (is_deferred_place c.place
-    && list_all is_deferred (literals_between l.body bodies))) (defer_wait l.number ∷ []))
+    && list_all (runs_once e) (literals_between l.body bodies))) (defer_wait l.number ∷ []))
 
 -- `g.SetLimit(..)` as a statement
 abbrev pub group_limited : Local → List BodyPlace → Call → Option (List Event)
@@ -630,7 +685,7 @@ group_called seen l bodies None c = None
 group_called seen l bodies (Some m) c =
     if bytes_eq m (codes "Go") then group_started seen l bodies c
     else if bytes_eq m (codes "TryGo") then group_tried seen l bodies c
-    else if bytes_eq m (codes "Wait") then group_awaited l bodies c
+    else if bytes_eq m (codes "Wait") then group_awaited seen.known.edition l bodies c
     else if bytes_eq m (codes "SetLimit") then group_limited l bodies c
     else None
 

@@ -3,17 +3,21 @@
 -- variable safe, and one under `defer` for a group if none leaves the group live. So a literal of which no return is
 -- reached is relied on for all that it captures, and one with too many variables, or with a `goto`, for nothing. A
 -- literal relies on the literals in it, which begin after its `func`. Of functions nothing is asked: no literal passes
--- a variable that it captures.
--- (The Go specification, "Defer statements"; the documentation of `golang.org/x/sync/errgroup`.)
+-- a variable that it captures. In the second edition a literal under `go` is relied on so too, but only if some return
+-- of it is reached; and none is relied on for a variable that it binds, or a literal in it.
+-- (The Go specification, "Defer statements", "Go statements"; the documentation of `golang.org/x/sync/errgroup`.)
 use Rattle.std.specs.Prelude.{ℕ, ◌≡◌, ◌↔◌, ◌==◌, Bool, true, false, not, ◌&&◌, if◌then◌else◌, List, [], ◌∷◌, Option, Some, None, Contains, nat_lt}
+use Rattle.std.specs.List.{list_any}
+use Rattle.tree.specs.declared.edition.Edition.{Edition}
+use Rattle.tree.specs.declared.edition.Edition.TheVariants.{First, Second}
 use Rattle.meaning.specs.Code.{Occurrence}
 use Rattle.meaning.specs.FunctionFacts.{VariableKind, cancel, group}
-use Rattle.meaning.specs.Mentions.{BodyPlace}
-use Rattle.meaning.specs.Tracked.{live, idle}
-use Rattle.meaning.specs.Uses.{Callee, Handed, Event, Seen}
-use Rattle.meaning.specs.BodyEvents.{Variable, captured, bodies_of, variables_of, unfollowed_faults}
+use Rattle.meaning.specs.Mentions.{BodyPlace, Role, exposed, left, Mark, mentions}
+use Rattle.meaning.specs.Tracked.{live, idle, variable_of, is_variable}
+use Rattle.meaning.specs.Uses.{Callee, Handed, Event, Seen, goes_off}
+use Rattle.meaning.specs.BodyEvents.{Variable, captured, bodies_of, is_around, variables_of, unfollowed_faults}
 use Rattle.meaning.specs.Classes.{Promises, CancelClass, unset, opened, kept, safe, pending, GroupClass, unmade, in_state, awaited}
-use Rattle.meaning_packages.specs.PathFaults.{Paths, cancel_class, group_class, ComesToReturn, paths_of}
+use Rattle.meaning_packages.specs.PathFaults.{Paths, cancel_class, group_class, ComesToReturn, ComesBack, paths_of}
 
 -- Bodies of a file
 
@@ -64,6 +68,28 @@ pub record Settles (b : Paths) (v : Variable) : Type 0 where
       → ComesToReturn b t o handed
       → is_settled b v t v.kind ≡ true
 
+-- the name may get another value there
+abbrev pub may_set : Role → Bool
+may_set exposed = true
+may_set (left k row) = true
+may_set role = false
+
+-- the literal at that offset, or one in it, binds the variable of that number
+abbrev pub binds_there : Seen → ℕ → ℕ → List BodyPlace → Mark → Bool
+binds_there seen literal number bodies (mentions m) =
+    is_around literal bodies && (is_variable (variable_of seen.known m) number && may_set m.role)
+binds_there seen literal number bodies mark = false
+
+abbrev pub binds_captured : Edition → Seen → ℕ → ℕ → Bool
+binds_captured First seen literal number = false
+binds_captured Second seen literal number =
+    list_any (λ p. binds_there seen literal number p.bodies p.mark) seen.marks
+
+-- a goroutine that never returns settles nothing
+abbrev pub MayComeBack : Edition → Bool → Paths → Type 0
+MayComeBack Second true b = ComesBack b
+MayComeBack e goes_off b = Unit {0}
+
 -- the literal at that offset captures the variable of that number, and settles it under these credits
 pub record IsCredited (seen : Seen) (credits : Credits) (literal number : ℕ) : Type 0 where
   pub body : BodyPlace
@@ -73,6 +99,9 @@ pub record IsCredited (seen : Seen) (credits : Credits) (literal number : ℕ) :
   pub is_of_body : Contains (variables_of seen literal) variable
   pub is_captured : variable.role ≡ captured
   pub is_it : variable.number ≡ number
+  pub binds_none : binds_captured seen.known.edition seen literal number ≡ false
+  pub comes_back : MayComeBack seen.known.edition (goes_off body.literal)
+      (paths_of seen (promises_in no_calls credits literal) body)
   pub settles : Settles (paths_of seen (promises_in no_calls credits literal) body) variable
 
 -- all credits of a file: there is one such table

@@ -101,6 +101,13 @@ pub record ComesToReturn
   pub reaches : Reaches b.code t o
   pub is_return : o.event ≡ return_event handed
 
+-- some list comes to a return
+pub record ComesBack (b : Paths) : Type 0 where
+  pub handed : List Handed
+  pub list : List (Occurrence Event)
+  pub there : Occurrence Event
+  pub comes : ComesToReturn b list there handed
+
 -- a cancel variable that the body declares and does not hand on there
 pub record OwesCall (b : Paths) (v : Variable) (handed : List Handed) : Type 0 where
   pub is_of_body : Contains b.variables v

@@ -4,9 +4,9 @@ use Rattle.std.specs.Prelude.{◌==◌, ◌↔◌}
 use Rattle.std.proofs.lemmas.Bool.{ltb-true}
 use Rattle.std.proofs.lemmas.Bool.Decides.{Decides-eqb}
 use Rattle.meaning.specs.Mentions.{BodyPlace}
-use Rattle.meaning.specs.Uses.{Seen}
+use Rattle.meaning.specs.Uses.{Seen, goes_off}
 use Rattle.meaning_packages.specs.PathFaults.{paths_of}
-use Rattle.meaning_packages.specs.Credits.{body_at, Credits, begun_after, no_calls, Settles, IsCredited, AreFullCredits}
+use Rattle.meaning_packages.specs.Credits.{body_at, Credits, begun_after, no_calls, Settles, MayComeBack, IsCredited, AreFullCredits}
 use Rattle.meaning.specs.BodyEvents.{bodies_of}
 use Rattle.meaning_packages.specs.CallsFlags.{Flags, FileWithCredits, AreMost}
 use Rattle.meaning_reports.specs.PackageTables.{AreCredited, no_file, file_and}
@@ -92,6 +92,9 @@ module _ (seen : Seen) where
     is_of_body = h.is_of_body;
     is_captured = h.is_captured;
     is_it = h.is_it;
+    binds_none = h.binds_none;
+    comes_back = subst (λ c. MayComeBack seen.known.edition (goes_off h.body.literal)
+        (paths_of seen (record { calls = no_calls; credits = c }) h.body)) same h.comes_back;
     settles = subst (λ c. Settles (paths_of seen (record { calls = no_calls; credits = c }) h.body) h.variable) same h.settles;
   }
 

@@ -7,7 +7,7 @@
 use Rattle.std.specs.Prelude.{ℕ, ◌≡◌, true, List, Some, slice_get, Contains}
 use Rattle.tree.specs.declared.edition.Edition.TheVariants.{First}
 use Rattle.meaning.specs.Mentions.{BodyPlace}
-use Rattle.meaning.specs.Uses.{Callee, VariableAt, Event, pass, defer_pass, lend, Seen}
+use Rattle.meaning.specs.Uses.{Callee, VariableAt, Sent, go_pass, Event, pass, defer_pass, lend, go, Seen}
 use Rattle.meaning.specs.BodyEvents.{bodies_of, events_at}
 use Rattle.imports.specs.Ranks.{Imports}
 use Rattle.meaning_reports.specs.Loaded.{LoadedPackage, Tables, counts, counts_as_given, import_list, seen_files}
@@ -17,6 +17,7 @@ pub data HandsTo (f : Callee) : Event → Type 0 where
   passes : {u : VariableAt} {k : ℕ} → HandsTo f (pass u f k)
   defers : {u : VariableAt} {k : ℕ} → HandsTo f (defer_pass u f k)
   lends : {v k : ℕ} → HandsTo f (lend v f k)
+  goes : {xs : List Sent} → HandsTo f (go (go_pass f xs))
 
 -- a body of the file does so, on a path or not
 pub record HandsThere (file : Seen) (f : Callee) : Type 0 where

@@ -4,10 +4,11 @@ use Rattle.std.specs.Prelude.{if◌then◌else◌}
 use Rattle.meaning.specs.Code.{Occurrence}
 use Rattle.meaning.specs.Lists.{Reaches}
 use Rattle.meaning.specs.FunctionFacts.{VariableKind, cancel, group}
-use Rattle.meaning.specs.Mentions.{BodyPlace, Row, Role, elsewhere, as_key, called, called_in_brackets, argument, returned, left, names_type, new_literal, parameter_pointer, Mention, Mark, mentions, defers_literal, returns, opens, closes, exposed, found_nil, found_error, pointed_to, of_fields}
+use Rattle.tree.specs.declared.edition.Edition.{Edition}
+use Rattle.meaning.specs.Mentions.{Moment, BodyPlace, Row, Role, elsewhere, as_key, called, called_in_brackets, argument, returned, left, names_type, new_literal, parameter_pointer, Mention, Mark, mentions, runs_literal, returns, opens, closes, exposed, found_nil, found_error, pointed_to, of_fields}
 use Rattle.meaning.specs.Tracked.{Known, variable_of, GroupState, LocalRole, parameter, receiver, variadic, result, in_block, Local}
-use Rattle.meaning.specs.Uses.{Seen, found, kind_of, tracked_kind, VariableAt, Callee, Event, other, obtain, clear, call, defer_call, pass, defer_pass, lend, start, try, wait, defer_wait, make, defer_literal, return_event, Binding, obtained, cleared, made, binding_at, binding_event, mention_outcome, binding_outcome, row_outcome, role_outcome, local_outcome, is_own, is_body, variable_outcome, obtain_kept, renew, keep, call_kept, defer_kept, give, give_field}
-use Rattle.meaning.specs.BodyEvents.{handed_on, mark_events}
+use Rattle.meaning.specs.Uses.{Seen, found, kind_of, tracked_kind, VariableAt, Callee, Event, other, obtain, clear, call, defer_call, pass, defer_pass, lend, start, try, wait, defer_wait, make, defer_literal, go_literal, go, return_event, Binding, obtained, cleared, made, binding_at, binding_event, mention_outcome, binding_outcome, row_outcome, role_outcome, local_outcome, is_own, is_body, variable_outcome, obtain_kept, renew, keep, call_kept, defer_kept, give, give_field, go_call}
+use Rattle.meaning.specs.BodyEvents.{handed_on, literal_events, mark_events}
 use Rattle.meaning.proofs.Membership.{contains_cases, contains_nil}
 use Rattle.meaning_packages.specs.PathFaults as faults
 use Rattle.meaning_packages.specs.PathFaults.{BindsCancel}
@@ -18,6 +19,7 @@ use Rattle.meaning_runs.proofs.KeptEvents.{IsOwnLocal, keep_is_own, IsOfObject, 
 use Rattle.meaning_runs.proofs.OwnVariables.{found_is}
 use Rattle.meaning_runs.proofs.Places.{eqb_is}
 use Rattle.meaning_runs.proofs.EventSources.{events_have_sources}
+use Rattle.meaning_runs.proofs.SentEvents.{literal_event_fits}
 use Rattle.meaning_runs.proofs.MentionEvents.{is_use, mention_fits, of_its_variable}
 
 -- an event that binds a cancel variable or a group, and where
@@ -65,6 +67,7 @@ is_binding (wait g) = false
 is_binding (defer_wait g) = false
 is_binding (make u state) = true
 is_binding (defer_literal at) = false
+is_binding (go work) = false
 is_binding (return_event handed) = false
 
 is_binding_so : (e : Event) (u : VariableAt) → Binds e u → is_binding e ≡ true
@@ -79,6 +82,12 @@ no_binding e u q b = let bad : false ≡ true = sym q ∙ is_binding_so e u b in
 pub single : (x : Event) → is_binding x ≡ false → Harmless (x ∷ [])
 single x q e h u b =
     elim (contains_cases x e [] h) [ inl same ↦ no_binding x u q (subst (λ y. Binds y u) (sym same) b) | inr n ↦ contains_nil e n ]
+
+-- nor does a mark of a literal that a statement runs
+pub run_binds_nothing : (edition : Edition) (moment : Moment) (at : ℕ) → Harmless (literal_events edition moment at)
+run_binds_nothing edition moment at e h u =
+    literal_event_fits (λ x. Binds x u → ⊥) edition moment at (no_binding (defer_literal at) u refl)
+    (no_binding (go (go_literal at)) u refl) e h
 
 use_binds_nothing : (e : Event) → is_use e ≡ true → is_binding e ≡ false
 use_binds_nothing other h = refl
@@ -102,12 +111,14 @@ use_binds_nothing (wait g) h = refl
 use_binds_nothing (defer_wait g) h = refl
 use_binds_nothing (make u state) h = let bad : false ≡ true = h in cc
 use_binds_nothing (defer_literal at) h = refl
+use_binds_nothing (go work) h = refl
 use_binds_nothing (return_event handed) h = refl
 
 pub mention_harmless : (seen : Seen) (l : Local) (kind : Option VariableKind) (bodies : List BodyPlace) (m : Mention) → Harmless (mention_outcome seen l kind bodies m).events
 mention_harmless seen l kind bodies m =
     mention_fits (λ e. (u : VariableAt) → Binds e u → ⊥) bodies l
     (λ e h own u b. no_binding e u (use_binds_nothing e h) b) seen kind m
+    (λ second v u b. no_binding (go (go_call v)) u refl b)
 
 pub same_body : (bodies : List BodyPlace) (m n : ℕ) → is_body m bodies ≡ true → is_body n bodies ≡ true → m ≡ n
 same_body [] m n h k = let bad : false ≡ true = h in cc
@@ -125,7 +136,8 @@ pub of_variable : (seen : Seen) (bodies : List BodyPlace) (m : Mention) (e : Eve
     → Contains (variable_outcome seen bodies m).events e ⊎ IsOfObject seen bodies (mentions m) e
 of_variable seen bodies m e u h binds =
     of_its_variable seen bodies m e
-    (λ v same. no_binding (call v) u refl (subst (λ (x : Event). Binds x u) (sym same) binds)) h
+    (λ v same. no_binding (call v) u refl (subst (λ (x : Event). Binds x u) (sym same) binds))
+    (λ is. no_binding e u (ap is_binding is.is_event) binds) h
 
 -- what is of an object binds an own variable of the body, if any
 pub object_binds_own : {seen : Seen} {bodies : List BodyPlace} {mark : Mark} (e : Event) (u : VariableAt)
@@ -209,7 +221,7 @@ by_mark b bodies (mentions m) e u here h binds = elim (of_variable b.file bodies
 by_mark b bodies (of_fields site m) e u here h binds =
     own_is_bound b bodies u here
     (object_binds_own e u (field_events_are b.file bodies site m e h) binds).0
-by_mark b bodies (defers_literal site at) e u here h binds = absurd (single (defer_literal at) refl e h u binds)
+by_mark b bodies (runs_literal moment site at) e u here h binds = absurd (run_binds_nothing b.file.known.edition moment at e h u binds)
 by_mark b bodies (returns at es) e u here h binds =
     absurd (single (return_event (handed_on b.file bodies 0 es)) refl e h u binds)
 by_mark b bodies (opens x) e u here h binds = absurd (contains_nil e h)

@@ -5,7 +5,7 @@ use Rattle.std.proofs.lemmas.List.Elements.{Contains-append_cases}
 use Rattle.tree.specs.declared.operator.DeclKeyword.{DeclKeyword}
 use Rattle.tree.specs.declared.span.Span.{Span}
 use Rattle.tree.specs.Syntax.{Identifier, Parameters, Specs, no_spec, value_and, type_and, declaration_of, Block, Function, TopLevelDeclaration, function_declaration, general_declaration, ImportSpec, ImportDeclaration, SourceFile}
-use Rattle.meaning.specs.Mentions.{BodyPlace, Mark, mentions, defers_literal, returns, opens, closes, part_of, expressions_marks, expression_marks, optional_marks, signature_marks, statements_marks, declared_elsewhere, type_parameters_marks, receiver_marks, function_body, function_marks, outer_specs_marks, top_level_marks, top_levels_marks, marks_by, file_marks, of_fields, imports_all, is_dot, import_marks}
+use Rattle.meaning.specs.Mentions.{BodyPlace, Mark, mentions, returns, opens, closes, part_of, expressions_marks, expression_marks, optional_marks, signature_marks, statements_marks, declared_elsewhere, type_parameters_marks, receiver_marks, function_body, function_marks, outer_specs_marks, top_level_marks, top_levels_marks, marks_by, file_marks, of_fields, imports_all, is_dot, import_marks, runs_literal}
 use Rattle.meaning.specs.Tracked.{Placed, outer, placed}
 use Rattle.tree.specs.declared.edition.Edition.{Edition}
 use Rattle.meaning.specs.Cursor.{GoText, read_in, ◌⨾◌, spanning, string_token}
@@ -164,7 +164,7 @@ module _ (text : GoText) where
 opened_here : (m : Mark) (b : BodyPlace) → Contains (opened_by m) b → m ≡ opens b
 opened_here (mentions m) b h = absurd (contains_nil b h)
 opened_here (of_fields site m) b h = absurd (contains_nil b h)
-opened_here (defers_literal site at) b h = absurd (contains_nil b h)
+opened_here (runs_literal moment site at) b h = absurd (contains_nil b h)
 opened_here (returns at es) b h = absurd (contains_nil b h)
 opened_here (opens c) b h = elim (contains_cases c b [] h) [
   | inl e ↦ ap opens e
@@ -213,7 +213,7 @@ unfolding placed
 begin_once bodies [] h = tt
 begin_once bodies (mentions m ∷ ms) h = begin_once bodies ms h.1
 begin_once bodies (of_fields site m ∷ ms) h = begin_once bodies ms h.1
-begin_once bodies (defers_literal site at ∷ ms) h = begin_once bodies ms h.1
+begin_once bodies (runs_literal moment site at ∷ ms) h = begin_once bodies ms h.1
 begin_once bodies (returns at es ∷ ms) h = begin_once bodies ms h.1
 begin_once bodies (opens b ∷ ms) h = (
   λ c among same.

@@ -7,15 +7,14 @@ use Rattle.lexer.specs.declared.token.TokenKind.{TokenKind}
 use Rattle.lexer.specs.declared.token.TokenKind.TheVariants.{FuncKeyword, ReturnKeyword, LeftBrace, RightBrace}
 use Rattle.tree.specs.declared.span.Span.{Span}
 use Rattle.tree.specs.Syntax.{Identifier, Expressions, StatementForm}
-use Rattle.meaning.specs.Mentions.{BodyPlace, LiteralUse, other_use, deferred_call, started_by, deferral, Mark, mentions, defers_literal, returns, opens, closes, in_body, of_fields}
+use Rattle.meaning.specs.Mentions.{BodyPlace, LiteralUse, other_use, deferred_call, started_by, deferral, Mark, mentions, runs_literal, returns, opens, closes, in_body, of_fields, Moment, at_return, in_goroutine, call_under_go}
 use Rattle.meaning.specs.Cursor.{GoText, Cursor, Rule, ◌⨾◌, ◌⇒◌, nothing, never, one_of, optional, chosen, token, string_token, not_before, semicolon, TakesSemicolon, Semicolons, no_semicolon, semicolon_and, spanning, start_at, first_start, identifier, optional_identifier, more_identifiers, identifiers}
 use Rattle.meaning.specs.Grammar.{statement_start}
 use Rattle.meaning.proofs.Membership.{contains_nil, contains_here, contains_there}
 use Rattle.meaning_runs.proofs.AskedSites.{CodeSite, asked_at, unasked_at, asked_body}
 use Rattle.meaning_runs.proofs.BodyOffsetsWithin.{Within, IsPlain, no_marks, plain_and, wider, longer, both_within, turned_within, body_within}
 use Rattle.meaning_runs.proofs.BodyOffsetsTokens.{is_solid, Ordered, first_ordered, none_ordered, from_first, AreUnder}
-use Rattle.meaning_runs.proofs.SitesWithin.{Around, no_site, from_site, behind_site, Fits, still_fits, IsOwn, AreOwn, Sited, own_sited, wider_sited, longer_sited, both_sited, turned_sited, own_before, own_behind, foreign_sited, past_sited, unasked_sited, settled_sited, noted_sited, lone_sited, return_sited, body_sited, IsAskedMention, AreAskedMentions, mentions_before}
-use Rattle.meaning_runs.proofs.SitesWithin.{IsMention, AreMentions, mention_is_own, mentions_are_own}
+use Rattle.meaning_runs.proofs.SitesWithin.{Around, no_site, from_site, behind_site, Fits, still_fits, IsOwn, AreOwn, Sited, own_sited, wider_sited, longer_sited, both_sited, turned_sited, own_before, own_behind, foreign_sited, past_sited, unasked_sited, settled_sited, noted_sited, lone_sited, return_sited, body_sited, IsAskedMention, AreAskedMentions, mentions_before, IsMention, AreMentions, mention_is_own, mentions_are_own}
 
 -- the next token stands where the tokens may begin that are left, or behind
 abbrev pub IsNextBehind : Cursor → Type 0
@@ -304,7 +303,7 @@ asked_so {takes} {own} {ms = ms} {rule = rule} e h = subst (λ (l : List CodeSit
 plain_own : (own : Around) (m : Mark) → IsOwn own m → IsPlain m
 plain_own own (mentions m) h = tt
 plain_own own (of_fields site m) h = tt
-plain_own own (defers_literal site at) h = tt
+plain_own own (runs_literal moment site at) h = tt
 plain_own own (returns site es) h = absurd h
 plain_own own (opens b) h = absurd h
 plain_own own closes h = absurd h
@@ -321,7 +320,7 @@ all_plain own (m ∷ ms) h = (plain_own own m h.0, all_plain own ms h.1)
 one_asked_plain : (asks : List CodeSite) (m : Mark) → IsAskedMention asks m → IsPlain m
 one_asked_plain asks (mentions m) h = tt
 one_asked_plain asks (of_fields site m) h = tt
-one_asked_plain asks (defers_literal site at) h = absurd h
+one_asked_plain asks (runs_literal moment site at) h = absurd h
 one_asked_plain asks (returns site es) h = absurd h
 one_asked_plain asks (opens b) h = absurd h
 one_asked_plain asks closes h = absurd h
@@ -400,15 +399,13 @@ plain_behind ns {own = own} {ms = ms} are h from to lo f o s =
       bounded = a.bounded;
     }
 
--- a literal that is called under `defer`, or not
-pub whole_literal : (b : BodyPlace) (used : LiteralUse) (site : ℕ) (ms : List Mark) {takes : Bool} {rule : Rule}
+-- a literal that is called under `defer` or `go`
+run_literal : (b : BodyPlace) (moment : Moment) (site : ℕ) (ms : List Mark) {takes : Bool} {rule : Rule}
     → Gives takes (from_site site) [] (in_body b ms) rule
-    → Gives takes (from_site site) [] (in_body b ms ++ deferral used site b.at) rule
-whole_literal b other_use site ms h = moved (sym (append-nil (in_body b ms))) h
-whole_literal b (started_by n) site ms h = moved (sym (append-nil (in_body b ms))) h
-whole_literal b deferred_call site ms h = λ from to lo f o s.
+    → Gives takes (from_site site) [] (in_body b ms ++ runs_literal moment site b.at ∷ []) rule
+run_literal b moment site ms h = λ from to lo f o s.
     let a = h from to lo f o s in
-    let last = defers_literal site b.at ∷ [] in
+    let last = runs_literal moment site b.at ∷ [] in
     record {
       hi = a.hi;
       left = a.left;
@@ -417,6 +414,15 @@ whole_literal b deferred_call site ms h = λ from to lo f o s.
       has_bytes = a.has_bytes;
       bounded = a.bounded;
     }
+
+-- or not
+pub whole_literal : (b : BodyPlace) (used : LiteralUse) (site : ℕ) (ms : List Mark) {takes : Bool} {rule : Rule}
+    → Gives takes (from_site site) [] (in_body b ms) rule
+    → Gives takes (from_site site) [] (in_body b ms ++ deferral used site b.at) rule
+whole_literal b other_use site ms h = moved (sym (append-nil (in_body b ms))) h
+whole_literal b (started_by n) site ms h = moved (sym (append-nil (in_body b ms))) h
+whole_literal b deferred_call site ms h = run_literal b at_return site ms h
+whole_literal b call_under_go site ms h = run_literal b in_goroutine site ms h
 
 -- Statements
 

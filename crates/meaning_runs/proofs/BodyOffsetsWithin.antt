@@ -1,7 +1,7 @@
 -- Marks that stand within a range of offsets: their bodies begin in it, each behind those around it, one at an offset.
 use Rattle.std.proofs.Common.{◌≡◌, ℕ, ◌+◌, ◌<◌, ◌≤◌, ◌⊎◌, inl, inr, List, [], ◌∷◌, ◌++◌, Contains, refl, sym, ap, ◌∙◌, subst, arith, append_assoc, append-nil}
 use Rattle.std.proofs.lemmas.List.Elements.{Contains-append_cases}
-use Rattle.meaning.specs.Mentions.{BodyPlace, Mark, mentions, defers_literal, returns, opens, closes, in_body, of_fields}
+use Rattle.meaning.specs.Mentions.{BodyPlace, Mark, mentions, runs_literal, returns, opens, closes, in_body, of_fields}
 use Rattle.meaning.specs.Tracked.{Placed, placed}
 use Rattle.meaning.proofs.Membership.{contains_cases, contains_here, contains_nil, contains_there}
 use Rattle.meaning_runs.specs.BodyOffsets.{AreFalling}
@@ -50,7 +50,7 @@ pub record Within (lo hi : ℕ) (ms : List Mark) : Type 0 where
 abbrev pub IsPlain : Mark → Type 0
 IsPlain (mentions m) = Unit {0}
 IsPlain (of_fields site m) = Unit {0}
-IsPlain (defers_literal site at) = Unit {0}
+IsPlain (runs_literal moment site at) = Unit {0}
 IsPlain (returns at es) = Unit {0}
 IsPlain (opens b) = ⊥
 IsPlain closes = ⊥
@@ -59,7 +59,7 @@ placed_plain : (bodies : List BodyPlace) (m : Mark) (ms : List Mark) → IsPlain
 unfolding placed
 placed_plain bodies (mentions m) ms h = refl
 placed_plain bodies (of_fields site m) ms h = refl
-placed_plain bodies (defers_literal site at) ms h = refl
+placed_plain bodies (runs_literal moment site at) ms h = refl
 placed_plain bodies (returns at es) ms h = refl
 placed_plain bodies (opens b) ms h = absurd h
 placed_plain bodies closes ms h = absurd h

@@ -11,16 +11,16 @@ use Rattle.meaning.specs.Lists.{Reaches}
 use Rattle.meaning.specs.Scopes.{is_blank}
 use Rattle.meaning.specs.Declarations.{Meaning}
 use Rattle.meaning.specs.FunctionFacts.{VariableKind}
-use Rattle.meaning.specs.Mentions.{Named, bare, RowForm, defines, assigns, declares, Row, Role, elsewhere, as_key, called, called_in_brackets, argument, returned, left, names_type, new_literal, parameter_pointer, Mention, BodyPlace, Mark, mentions, defers_literal, returns, opens, closes, exposed, found_nil, found_error, pointed_to, of_fields}
+use Rattle.meaning.specs.Mentions.{Named, bare, RowForm, defines, assigns, declares, Row, Role, elsewhere, as_key, called, called_in_brackets, argument, returned, left, names_type, new_literal, parameter_pointer, Mention, BodyPlace, Mark, mentions, runs_literal, returns, opens, closes, exposed, found_nil, found_error, pointed_to, of_fields}
 use Rattle.meaning.specs.Tracked.{Known, Giving, local_meant_or, variable_of, declared_there, declared_by, blank_left, name_left, other_left, left_name, left_of_name, left_of_expression, field_left, is_outer_at, lefts_of_expressions, lefts_of, left_local, local_at, may_bind, row_giving, is_given, are_locals, obtains_there, row_obtains, row_makes, made_by_form, Placed, LocalRole, parameter, receiver, variadic, result, in_block, Local}
-use Rattle.meaning.specs.Uses.{Seen, found, kind_of, tracked_kind, VariableAt, Event, other, defer_literal, return_event, Binding, obtained, cleared, made, is_cancel, kind_at, row_binds, row_clears, made_binding, binding_at, binding_event, is_in_literal, fault_at, bound_again, UseFault, first_faults, type_faults, again_faults, binding_outcome, row_outcome, role_outcome, local_outcome, variable_outcome, is_own, is_body, mention_faults}
+use Rattle.meaning.specs.Uses.{Seen, found, kind_of, tracked_kind, VariableAt, Event, other, return_event, Binding, obtained, cleared, made, is_cancel, kind_at, row_binds, row_clears, made_binding, binding_at, binding_event, is_in_literal, fault_at, bound_again, UseFault, first_faults, type_faults, again_faults, binding_outcome, row_outcome, role_outcome, local_outcome, variable_outcome, is_own, is_body, mention_faults}
 use Rattle.meaning.specs.BodyEvents.{handed_on, mark_events, mark_faults, faults_of, variables_of, too_many_faults, body_faults}
 use Rattle.meaning.proofs.Membership.{contains_here, contains_cases, contains_nil}
 use Rattle.meaning_runs.specs.Bodies.{Body, code_of}
 use Rattle.meaning_runs.specs.World.{own_cell, is_declaration}
 use Rattle.meaning_runs.specs.EventSources.{HasSource, says_nothing, falls_off, of_mark}
 use Rattle.meaning_runs.proofs.EventSources.{events_have_sources}
-use Rattle.meaning_runs.proofs.Bindings.{Binds, obtains, clears, makes, no_binding, single, mention_harmless, of_variable, object_binds_own}
+use Rattle.meaning_runs.proofs.Bindings.{Binds, obtains, clears, makes, no_binding, single, run_binds_nothing, mention_harmless, of_variable, object_binds_own}
 use Rattle.meaning_runs.proofs.KeptEvents.{IsOwnLocal, field_events_are}
 use Rattle.meaning_runs.proofs.OwnVariables.{find_is, found_is}
 use Rattle.meaning_runs.proofs.TrackedBindings.{each_of, first_of_either, named_is_no_outer}
@@ -218,7 +218,7 @@ by_mark seen bodies (mentions m) e u fits none h binds = elim (of_variable seen 
 ]
 by_mark seen bodies (of_fields site m) e u fits none h binds =
     in_its_cell seen bodies e u (object_binds_own e u (field_events_are seen bodies site m e h) binds)
-by_mark seen bodies (defers_literal site at) e u fits none h binds = absurd (single (defer_literal at) refl e h u binds)
+by_mark seen bodies (runs_literal moment site at) e u fits none h binds = absurd (run_binds_nothing seen.known.edition moment at e h u binds)
 by_mark seen bodies (returns at es) e u fits none h binds = absurd (single (return_event (handed_on seen bodies 0 es)) refl e h u binds)
 by_mark seen bodies (opens x) e u fits none h binds = absurd (contains_nil e h)
 by_mark seen bodies closes e u fits none h binds = absurd (contains_nil e h)

@@ -9,7 +9,7 @@ use Rattle.meaning.specs.Uses.{Callee, VariableAt, Event}
 use Rattle.meaning.proofs.Membership.{contains_here, contains_there, contains_cases, contains_nil}
 use Rattle.meaning_runs.specs.Bodies.{Program, Body}
 use Rattle.meaning_runs.specs.World.{Value, nothing, cancel_function, Place, Store, put_at, IsAny, any_nothing, any_function, with_new, calling, ending, with_member, waiting_for, Given, Passing, Saved, saved_call, saved_pass, saved_literal, saved_wait, Frame, World, with_stack, in_cell, held, held_group, with_cells, bound_cell, binding, new_frame, nothing_around, own_cell, kept_value}
-use Rattle.meaning_runs.specs.Steps.{WasCalled, MayJoin, evaluating, lending, Obtains, new_one, earlier_one, none_at_all, Makes, zero_group, with_context, DeclaredIsTrue, at_code, IsOutsideCall, at_once, saved_before, Begins, of_function, of_none, Acts, moves_on, does_other, obtains_one, clears_one, calls_one, saves_call, makes_group, tries_nothing, ends_wait, saves_wait, evaluates, evaluates_deferred, lends, makes_call, calls_outside, saves_pass, saves_literal, comes_to_return, runs_call, runs_pass, runs_literal, runs_wait, returns_now, ChangesMembers, starts_member, starts_stranger, starts_outside, starts_beside, leaves_group, Surrounds, starts, evaluates_literal, starts_literal, makes_cells, makes_one, ends_one, calls_any, makes_outside, joins_outside, Step, of_goroutine, of_members, of_environment, obtains_into, keeps_one, renews_object, calls_kept, saves_kept, gives_object, gives_in_field}
+use Rattle.meaning_runs.specs.Steps.{StartsGoroutine, starts_call, starts_function, starts_foreign, starts_its_literal, of_go, WasCalled, MayJoin, evaluating, lending, Obtains, new_one, earlier_one, none_at_all, Makes, zero_group, with_context, DeclaredIsTrue, at_code, IsOutsideCall, at_once, saved_before, Begins, of_function, of_none, Acts, moves_on, does_other, obtains_one, clears_one, calls_one, saves_call, makes_group, tries_nothing, ends_wait, saves_wait, evaluates, evaluates_deferred, lends, makes_call, calls_outside, saves_pass, saves_literal, comes_to_return, runs_call, runs_pass, runs_literal, runs_wait, returns_now, ChangesMembers, starts_member, starts_stranger, starts_outside, starts_beside, leaves_group, Surrounds, starts, evaluates_literal, starts_literal, makes_cells, makes_one, ends_one, calls_any, makes_outside, joins_outside, Step, of_goroutine, of_members, of_environment, obtains_into, keeps_one, renews_object, calls_kept, saves_kept, gives_object, gives_in_field}
 use Rattle.meaning_runs.specs.Runs.{Run, no_step, step_more}
 use Rattle.meaning_runs.specs.Laws.{GoesTo, Leads, stays, one_more, LeadsTo}
 use Rattle.meaning_runs.specs.CallSteps.{CallsHaveSteps}
@@ -327,10 +327,27 @@ by_goroutine p w g f others after frames at a k =
       | inr r ↦ still_full w.store after c.more x (here x (contains_there f x others r))
     ])
 
+-- what is to be called says nothing of it
+with_calls : {w : World} (calls : List ℕ) → AreKept w → AreKept (record w { to_call = calls })
+with_calls calls k = record { cells = k.cells; full = k.full }
+
+by_go : (p : Program) (w next : World) → StartsGoroutine p w next → AreKept w → AreKept next
+by_go p w next (starts_call {f = f} {others = others} {rest = rest} g sets) k =
+    with_calls _ (goes_on w g f others rest sets.is_running k)
+by_go p w next (starts_function {f = f} {others = others} {rest = rest} g h b values groups sets free is fits) k =
+    started (with_stack w w.store g (at_code f rest ∷ others)) h b nothing_around values groups fits.any
+    (goes_on w g f others rest sets.is_running k)
+by_go p w next (starts_foreign {f = f} {others = others} {rest = rest} g sets none) k =
+    with_calls _ (goes_on w g f others rest sets.is_running k)
+by_go p w next (starts_its_literal {f = f} {others = others} {rest = rest} g h b values groups sets free i at foreign) k =
+    started (with_stack w w.store g (at_code f rest ∷ others)) h b f.newest values groups foreign.any
+    (goes_on w g f others rest sets.is_running k)
+
 step_kept : (p : Program) (w next : World) → Step p w next → AreKept w → AreKept next
 step_kept p w next (of_goroutine {f = f} {others = others} {after = after} {frames = frames} g at a) k =
     by_goroutine p w g f others after frames at a k
 step_kept p w next (of_members c) k = by_members p w next c k
+step_kept p w next (of_go s) k = by_go p w next s k
 step_kept p w next (of_environment s) k = by_environment p w next s k
 
 pub run_kept : (p : Program) (w : World) → Run p w → AreKept w

@@ -6,7 +6,7 @@ use Rattle.std.specs.List.{list_any}
 use Rattle.std.proofs.lemmas.Bool.{and_parts, and_from, or_left, or_right, not_from_false, ne_eqb}
 use Rattle.std.proofs.lemmas.Option.{same_Some}
 use Rattle.meaning.specs.FunctionFacts.{VariableKind}
-use Rattle.meaning.specs.Mentions.{BodyPlace, Mark, mentions, defers_literal, returns, opens, closes, of_fields}
+use Rattle.meaning.specs.Mentions.{BodyPlace, Mark, mentions, runs_literal, returns, opens, closes, of_fields}
 use Rattle.meaning.specs.Tracked.{Known, variable_of, Placed, LocalRole, parameter, receiver, variadic, result, in_block, Local}
 use Rattle.meaning.specs.Uses.{Seen, found, tracked_kind, is_of_local, is_own, is_body, mentions_inside, is_in_literal}
 use Rattle.meaning.specs.BodyEvents.{Variable, VariableRole, own_parameter, own_receiver, declared_in_body, captured, role_in, role_in_own, is_declared_around, is_captured_there, is_variable_of, variable_there, variable_found, variables_of, distinct}
@@ -128,7 +128,7 @@ inside known literal l bodies (mentions m) falling e =
     let parts = and_parts (is_declared_around l.body literal bodies) (is_of_local l (variable_of known m)) e in
     and_from (is_of_local l (variable_of known m)) (not (is_own l bodies)) parts.1 (not_from_false (is_own l bodies) (not_innermost l.body literal bodies falling parts.0))
 inside known literal l bodies (of_fields site m) falling e = e
-inside known literal l bodies (defers_literal site at) falling e = e
+inside known literal l bodies (runs_literal moment site at) falling e = e
 inside known literal l bodies (returns at es) falling e = e
 inside known literal l bodies (opens b) falling e = e
 inside known literal l bodies closes falling e = e

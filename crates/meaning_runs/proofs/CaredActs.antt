@@ -1,11 +1,11 @@
 -- What the running frame of a goroutine does keeps what is said of the cancel functions of all frames of its stack.
-use Rattle.std.proofs.Common.{◌≡◌, ℕ, ◌<◌, ◌⊎◌, inl, inr, true, false, List, [], ◌∷◌, ◌++◌, length, map, Option, Some, None, Contains, refl, ap, subst, sym, arith}
+use Rattle.std.proofs.Common.{◌≡◌, ℕ, ◌≤◌, ◌<◌, ◌⊎◌, inl, inr, true, false, List, [], ◌∷◌, ◌++◌, length, map, Option, Some, None, Contains, refl, ap, subst, sym, arith}
 use Rattle.std.proofs.lemmas.Option.{none-some}
 use Rattle.meaning.proofs.Membership.{contains_here}
 use Rattle.meaning.specs.Code.{Occurrence, Code}
 use Rattle.meaning.specs.FunctionFacts.{group as group_kind}
 use Rattle.meaning.specs.Lists.{Reaches}
-use Rattle.meaning.specs.Uses.{Event, obtain, obtain_kept, renew, keep, call_kept, defer_kept, give, give_field, clear, make}
+use Rattle.meaning.specs.Uses.{pass, defer_pass, Event, obtain, obtain_kept, renew, keep, call_kept, defer_kept, give, give_field, clear, make}
 use Rattle.meaning.specs.BodyEvents.{Variable}
 use Rattle.meaning.specs.Classes.{Promises}
 use Rattle.meaning_reports.specs.UsedImports.{passes, defers}
@@ -17,9 +17,10 @@ use Rattle.meaning_runs.proofs.Bindings.{obtains, obtains_into as binds_into, cl
 use Rattle.meaning_runs.proofs.CaredBindings.{cared_clearing, cared_obtaining, cared_obtaining_into, cared_making, cared_new}
 use Rattle.meaning_runs.proofs.CaredCalls.{cared_caller, cared_outside, cared_saving_pass, cared_argument, cared_running_call, cared_running_pass, cared_running_outside, cared_running_literal, cared_running_wait, cared_returning, must_at_end}
 use Rattle.meaning_runs.proofs.CaredEvents.{cared_other, cared_silent, cared_calling, cared_saving_call, cared_evaluating, cared_lending, cared_trying, cared_waiting, cared_saving_wait, cared_saving_literal}
-use Rattle.meaning_runs.proofs.CaredFor.{IsCalledUnder, MustCall, MustSee, IsCared, SeenAbove, AreCared, LowestMust, IsRelied}
+use Rattle.meaning_runs.proofs.CaredFor.{level, IsMet, IsCalledUnder, MustCall, MustSee, IsCared, SeenAbove, AreCared, LowestMust, IsRelied}
 use Rattle.meaning_runs.proofs.CaredGoesOn.{LeftStill, left_same, all_cared, lowest_same}
 use Rattle.meaning_runs.proofs.CaredObjects.{cared_keeping, cared_renewing, cared_calling_kept, cared_saving_kept, cared_giving, cared_giving_field}
+use Rattle.meaning_runs.proofs.MentionEvents.{passes as passed_by}
 use Rattle.meaning_runs.proofs.ObjectEvents.{IsKeptWell, events_keep_well}
 use Rattle.meaning_runs.proofs.Holders.{IsKnown, IsHolder, AreHolders}
 use Rattle.meaning_runs.proofs.HolderFrames.{reached}
@@ -38,6 +39,15 @@ pub record BodiesAreKept (p : Program) : Type 0 where
   pub called : (b : Body) (v : Variable) → IsOf p b → IsRelied p b v → (relies : Promises) × IsCalledUnder p b relies v
   pub waited : (b : Body) (v : Variable) → IsOf p b → IsWaitingFor b v → (relies : Promises) × IsWaitedForUnder p b relies v
   pub binds : BindsItsOwn p
+  -- what it passes it does not capture
+  pub passes_own : (b : Body) (t : List (Occurrence Event)) (o : Occurrence Event) (n : ℕ)
+      → IsOf p b
+      → Reaches (code_of b) t o
+      → passed_by o.event ≡ Some n
+      → (v : Variable)
+      → Contains (variables_in b) v
+      → n ≡ v.number
+      → level b v ≤ 1
   -- work is started in groups alone
   pub starts : (b : Body) (t : List (Occurrence Event)) (o : Occurrence Event) (v : ℕ) (literal : Option ℕ)
       → IsOf p b
@@ -58,7 +68,7 @@ module _ (p : Program) (used : BodiesAreWellUsed p) (kept : BodiesAreKept p) whe
       pub record CaresWell (after_o : Origins) (after : Store) (stack : List Frame) (pasts : List Past) : Type 0 where
         pub stack_cared : AreCared p after_o after Nothing stack pasts
         pub lowest : (a : ℕ) → LowestMust p (f ∷ others) (q ∷ qs) a
-            → Contains after.called a ⊎ LowestMust p stack pasts a
+            → IsMet p after_o after a ⊎ LowestMust p stack pasts a
 
       begun_roots : {passing : Passing} {after : Store} {new : List Frame} (begins : Begins p s f passing after new) (h : ℕ)
           → (origins_begun begins o).root h ≡ o.root h
@@ -104,18 +114,19 @@ module _ (p : Program) (used : BodiesAreWellUsed p) (kept : BodiesAreKept p) whe
       well {after} {frames} acts = acts_held p used o s g f others q qs known it below after frames acts
 
       pub acts_left : {after : Store} {frames : List Frame} (acts : Acts p s place f after frames)
-          → LeftStill o s (origins_after acts o) after
-      acts_left acts = left_same (well acts).same_member (acts_roots acts)
+          → LeftStill p o s (origins_after acts o) after
+      acts_left acts =
+          left_same (well acts).same_member (acts_roots acts) (well acts).grows.more_begun (well acts).grows.same_least
 
       lower : (n : ℕ) → n < length others → frame_at (g, n) ≡ frame_at place → ⊥
       lower n l e = let same : n ≡ length others = ap (λ (r : Place). r.1) (same_frame (g, n) place e) in omega (arith, l, same)
 
       -- the frames below, of which those above have to see to what they had to, or it was called
       rest_stands : {after : Store} {frames : List Frame} (acts : Acts p s place f after frames) (must_now : ℕ → Type 0)
-          → ((a : ℕ) → SeenAbove p f.body q Nothing a → must_now a ⊎ Contains after.called a)
+          → ((a : ℕ) → SeenAbove p f.body q Nothing a → must_now a ⊎ IsMet p (origins_after acts o) after a)
           → AreCared p (origins_after acts o) after must_now others qs
       rest_stands acts must_now musts =
-          all_cared (well acts).grows (acts_left acts) p g (SeenAbove p f.body q Nothing) must_now others qs musts lower
+          all_cared (well acts).grows (acts_left acts) g (SeenAbove p f.body q Nothing) must_now others qs musts lower
           below cared_below
 
       -- one frame stands in its place
@@ -155,13 +166,13 @@ module _ (p : Program) (used : BodiesAreWellUsed p) (kept : BodiesAreKept p) whe
       none_before : (v k : ℕ) → nothing_around v ≡ Some k → ⊥
       none_before v k e = none-some k e
 
-      last_return : IsAtEnd f → (a : ℕ) → MustSee p f.body q a → Contains s.called a
+      last_return : IsAtEnd f → (a : ℕ) → MustSee p f.body q a → IsMet p o s a
       last_return ended =
           must_at_end it cared over (kept.no_fault f.body it.is_of) (λ v r. kept.called f.body v it.is_of r)
           (λ v w. kept.waited f.body v it.is_of w) ended
 
       lowest_gone : IsAtEnd f → (fs : List Frame) (a : ℕ) → LowestMust p (f ∷ fs) (q ∷ qs) a
-          → Contains s.called a ⊎ LowestMust p fs qs a
+          → IsMet p o s a ⊎ LowestMust p fs qs a
       lowest_gone ended [] a x = inl (last_return ended a (inl x))
       lowest_gone ended (e ∷ fs) a x = inr x
 
@@ -237,10 +248,14 @@ module _ (p : Program) (used : BodiesAreWellUsed p) (kept : BodiesAreKept p) whe
           (cared_saving_wait it cared d)
       acts_cared (evaluates {u = u} {c = c} {position = position} {rest = rest} d joins) =
           one (evaluates d joins) (evaluating s f u.number c position false rest) (behind q d) (λ a x. x) (λ a x. x)
-          (cared_evaluating it cared u c position false d joins (λ relies v k. refl) (λ relies v k. refl) passes)
+          (cared_evaluating it cared u c position false d joins (λ relies v k. refl) (λ relies v k. refl) passes
+          (λ v among same. kept.passes_own f.body q.events (occurrence_of d) u.number it.is_of
+          (reached p o s place q f it (pass u c position) rest d) refl v among same))
       acts_cared (evaluates_deferred {u = u} {c = c} {position = position} {rest = rest} d joins) =
           one (evaluates_deferred d joins) (evaluating s f u.number c position true rest) (behind q d) (λ a x. x) (λ a x. x)
-          (cared_evaluating it cared u c position true d joins (λ relies v k. refl) (λ relies v k. refl) defers)
+          (cared_evaluating it cared u c position true d joins (λ relies v k. refl) (λ relies v k. refl) defers
+          (λ v among same. kept.passes_own f.body q.events (occurrence_of d) u.number it.is_of
+          (reached p o s place q f it (defer_pass u c position) rest d) refl v among same))
       acts_cared (lends {v = v} {c = c} {position = position} {rest = rest} d joins) =
           one (lends d joins) (lending s f v c position rest) (behind q d) (λ a x. x) (λ a x. x)
           (cared_lending it cared d)

@@ -15,8 +15,8 @@ use Rattle.meaning_runs.specs.World.{Value, nothing, cancel_function, nobody, fr
 use Rattle.meaning_runs.specs.Steps.{DoesNext, at_code, with_function, Obtains, Makes}
 use Rattle.meaning_runs.specs.Duties.{IsWaitingFor}
 use Rattle.meaning_runs.proofs.Captured.{any_there}
-use Rattle.meaning_runs.proofs.CaredFor.{IsOpen, is_held, is_kept, is_pending, IsStillLeft, IsSeen, was_called, is_open, IsCared, IsOwn, AreKept, IsRelied, of_flag, of_credit, relied_there}
-use Rattle.meaning_runs.proofs.CaredGoesOn.{LeftStill, left_same, left_or_called, cared_on, sees_more}
+use Rattle.meaning_runs.proofs.CaredFor.{IsOpen, is_held, is_kept, is_pending, IsStillLeft, IsSeen, is_met, is_open, IsCared, IsOwn, AreKept, IsRelied, of_flag, of_credit, relied_there}
+use Rattle.meaning_runs.proofs.CaredGoesOn.{LeftStill, left_same, left_or_met, cared_on, sees_more}
 use Rattle.meaning_runs.proofs.Contexts.{put_at-same, put_at-other}
 use Rattle.meaning_runs.proofs.Credited.{same_kind}
 use Rattle.meaning_runs.proofs.GivenValues.{same_role}
@@ -64,7 +64,7 @@ module _ {p : Program} {o : Origins} {s : Store} {place : Place} {q : Past} {f :
   where
     -- A variable of that number is bound, and others hold what they held.
     module _ {after_o : Origins} {after : Store} (grows : Grows (frame_at place) o after_o s after)
-        (still : LeftStill o s after_o after) {e : Event} {rest : Code Event} (d : DoesNext f e rest)
+        (still : LeftStill p o s after_o after) {e : Event} {rest : Code Event} (d : DoesNext f e rest)
         (w : ℕ) (own : is_declared_in f.body w ≡ true) (cell : Option ℕ) (obtained made : List ℕ)
         (keeping : List InObject)
         (cells : (k v : ℕ) → (v ≡ w → ⊥) → after.cells k v ≡ s.cells k v)
@@ -131,7 +131,7 @@ module _ {p : Program} {o : Origins} {s : Store} {place : Place} {q : Past} {f :
           open_elsewhere relies v a ne (is_pending k h) =
               let u = k.left_to in
               let far = declared_elsewhere f.body w own u k.is_other.is_of_body k.is_other.is_not_declared_here in
-              left_or_called still k.group a (λ l. is_open (is_pending record {
+              left_or_met still k.group a (λ l. is_open (is_pending record {
                 code = rest;
                 stage = refl;
                 left_to = u;
@@ -142,14 +142,14 @@ module _ {p : Program} {o : Origins} {s : Store} {place : Place} {q : Past} {f :
                 is_working = subst IsWorking (sym (group_class_now relies u ∙ keeps.groups relies u.number far (group_class_of relies u q.events))) k.is_working;
                 is_held = group_now u.number far ∙ k.is_held;
                 is_left = l;
-              } (value_now v.number ne ∙ h))) (λ x. was_called x) k.is_left
+              } (value_now v.number ne ∙ h))) (λ x. is_met x) k.is_left
 
           live_elsewhere : (relies : Promises) (v : Variable) (group a : ℕ) → IsWaitingFor f.body v
               → IsStillLeft relies o s q f v group a
               → SeenNow (IsStillLeft relies after_o after (behind q d.comes_to) bound v group a) a
           live_elsewhere relies v group a waits h =
               let far = declared_elsewhere f.body w own v waits.is_of_body (ap is_declared waits.is_captured) in
-              left_or_called still group a (λ l. is_open record {
+              left_or_met still group a (λ l. is_open record {
                 is_live = record {
                   code = rest;
                   stage = refl;
@@ -158,7 +158,7 @@ module _ {p : Program} {o : Origins} {s : Store} {place : Place} {q : Past} {f :
                   is_held = group_now v.number far ∙ h.is_live.is_held;
                 };
                 is_left = l;
-              }) (λ x. was_called x) h.is_left
+              }) (λ x. is_met x) h.is_left
 
           pub cared_binding :
               ((relies : Promises) (v : Variable) (a : ℕ) → HasNoFaultUnder p f.body relies
@@ -173,18 +173,19 @@ module _ {p : Program} {o : Origins} {s : Store} {place : Place} {q : Past} {f :
               → IsCared p after_o after Nothing (behind q d.comes_to) bound
           cared_binding lost more new_ones = cared_on record {
             same_body = refl;
+            same_least = grows.same_least;
             sees = sees_more grows still bound refl (λ x h. h) more (λ a bad. absurd bad)
                 (λ passing x a h. absurd (none-some passing (sym d.none_waits ∙ h)));
             hands = λ a h. elim h [
               | inl x ↦ absurd (exits≢runs d.comes_to.goes_on.code (sym x.0 ∙ d.comes_to.goes_on.stage))
               | inr x ↦ inr x
             ];
-            obtained = new_ones;
-            own = λ relies v a none its h. inr (elim (cases_eq w v.number) [
+            obtained = λ relies a top none h. new_ones relies a none h;
+            own = λ relies v a top none its h. inr (elim (cases_eq w v.number) [
               | inl same ↦ absurd (lost relies v a none its same h)
               | inr ne ↦ open_elsewhere relies v a ne h
             ]);
-            duty = λ relies v a under h.
+            duty = λ relies v a deep under h.
                 let among = relied_there p f.body v under.is_relied in
                 open_elsewhere relies v a
                 (declared_elsewhere f.body w own v among.0 (relied_elsewhere p f.body v under.is_relied)) h;
@@ -223,8 +224,8 @@ module _ {p : Program} {o : Origins} {s : Store} {place : Place} {q : Past} {f :
         abbrev after : Store
         after = binding t f u value
 
-        its_left : LeftStill o s (written o place f.body k0 u.number) after
-        its_left = left_same (λ g. ap (λ (m : ℕ → Option ℕ). m g) changes.same_member) (λ g. refl)
+        its_left : LeftStill p o s (written o place f.body k0 u.number) after
+        its_left = left_same (λ g. ap (λ (m : ℕ → Option ℕ). m g) changes.same_member) (λ g. refl) (λ r h. h) refl
 
         cells_stay : (k v : ℕ) → (v ≡ u.number → ⊥) → after.cells k v ≡ s.cells k v
         cells_stay k v ne = put_in t.cells k0 u.number value k v ne ∙ ap (λ (c : ℕ → ℕ → Value). c k v) changes.same_cells
@@ -438,9 +439,9 @@ module _ {p : Program} {o : Origins} {s : Store} {place : Place} {q : Past} {f :
         after : Store
         after = binding_group (with_group made (frame_at place) context) f u made.group_count
 
-        its_left : LeftStill o s (written o place f.body (bound_cell made f u) u.number)
+        its_left : LeftStill p o s (written o place f.body (bound_cell made f u) u.number)
             (binding_group (with_group made (frame_at place) context) f u made.group_count)
-        its_left = left_same (λ g. ap (λ (m : ℕ → Option ℕ). m g) changes.same_member) (λ g. refl)
+        its_left = left_same (λ g. ap (λ (m : ℕ → Option ℕ). m g) changes.same_member) (λ g. refl) (λ r h. h) refl
 
         cells_stay : (k v : ℕ) → (v ≡ u.number → ⊥)
             → (binding_group (with_group made (frame_at place) context) f u made.group_count).cells k v ≡ s.cells k v
@@ -517,8 +518,9 @@ module _ (p : Program) (used : BodiesAreWellUsed p) (o : Origins) (s : Store) (v
 
     pub cared_new : IsCared p (with_block o s.cell_count) new_store Nothing its_past begun
     cared_new = record {
-      obtained = λ relies a none h. absurd (contains_nil a h);
-      duties = λ relies v a under e.
+      same_least = refl;
+      obtained = λ relies a top none h. absurd (contains_nil a h);
+      duties = λ relies v a deep under e.
           is_open (is_held (code_of b) refl (is_open_at_entry v.role (relied_elsewhere p b v under.is_relied))
           (relied_value v under.is_relied ∙ e));
       awaits = λ relies v group a under e l. is_open record {
@@ -528,6 +530,6 @@ module _ (p : Program) (used : BodiesAreWellUsed p) (o : Origins) (s : Store) (v
           is_live = is_live_at_entry v.role (ap is_declared under.waits_for.is_captured);
           is_held = waited_group v under.waits_for ∙ e;
         };
-        is_left = record { goroutine = l.goroutine; is_member = l.is_member; must = l.must };
+        is_left = record { goroutine = l.goroutine; is_member = l.is_member; must = l.must; is_begun = l.is_begun };
       };
     }

@@ -1,5 +1,5 @@
 -- Calls, what is saved for a return, and returns, with what is said of a frame's cancel functions.
-use Rattle.std.proofs.Common.{◌≡◌, ℕ, ◌⊎◌, inl, inr, true, false, cond, List, ◌∷◌, map, Option, Some, None, Contains, refl, sym, ap, ◌∙◌, subst}
+use Rattle.std.proofs.Common.{◌≡◌, ℕ, ◌≤◌, ◌⊎◌, inl, inr, true, false, cond, List, ◌∷◌, map, Option, Some, None, Contains, refl, sym, ap, ◌∙◌, subst}
 use Rattle.std.proofs.lemmas.Bool.{cases_Bool}
 use Rattle.std.proofs.lemmas.Option.{none-some, same_Some}
 use Rattle.meaning.specs.Code.{Code}
@@ -15,14 +15,14 @@ use Rattle.meaning_runs.specs.Runs.{Owes}
 use Rattle.meaning_runs.specs.Duties.{TakesUp, IsWaitingFor, AreTakenUp}
 use Rattle.meaning_runs.proofs.CaredBindings.{captured_no_parameter}
 use Rattle.meaning_runs.proofs.CaredEvents.{left_still}
-use Rattle.meaning_runs.proofs.CaredFor.{IsCalledUnder, IsLeftTo, MustCall, MustAwait, MustSee, SavesCall, calls_it, passes_it, credits_it, IsPending, IsOpen, is_held, is_kept, is_pending, IsStillLeft, IsSeen, was_called, is_saved, is_passed, is_waiting, left_to_made, left_to_awaited, is_open, IsCared, SeenAbove, IsOwn, LetsGo, AreKept, IsRelied, of_flag, of_credit}
-use Rattle.meaning_runs.proofs.CaredGoesOn.{LeftStill, left_same, none_left, left_or_called, cared_on, saves_call_grows, sees_more, cared_goes, cared_stands}
+use Rattle.meaning_runs.proofs.CaredFor.{level_in, level, IsMet, was_called, is_taken, left_is_taken, IsCalledUnder, IsLeftTo, MustCall, MustAwait, MustSee, SavesCall, calls_it, passes_it, credits_it, IsPending, IsOpen, is_held, is_kept, is_pending, IsStillLeft, IsSeen, is_met, is_saved, is_passed, is_waiting, left_to_made, left_to_awaited, is_open, IsCared, SeenAbove, IsOwn, LetsGo, AreKept, IsRelied, of_flag, of_credit}
+use Rattle.meaning_runs.proofs.CaredGoesOn.{met_grows, LeftStill, left_same, none_left, left_or_met, cared_on, saves_call_grows, sees_more, cared_goes, cared_stands}
 use Rattle.meaning_runs.proofs.GroupPaths.{returns_none_pending, kept_is_not_pending, group_class_of}
 use Rattle.meaning_runs.proofs.Holders.{Grows, IsHolder}
 use Rattle.meaning_runs.proofs.HolderFrames.{reached}
 use Rattle.meaning_runs.proofs.KeptEvents.{IsItsObject}
 use Rattle.meaning_runs.proofs.ObjectEvents.{events_keep_well}
-use Rattle.meaning_runs.proofs.MadeGroups.{HasNoFaultUnder, IsWaitedForUnder, SavesWait, by_wait, by_literal, IsOver, IsSettled, is_over, is_saved as is_saved_for, is_above, is_live, IsSeenOver, Nothing}
+use Rattle.meaning_runs.proofs.MadeGroups.{HasNoFaultUnder, IsWaitedForUnder, SavesWait, by_wait, by_literal, IsOver, IsSettled, is_over, is_saved as is_saved_for, is_above, is_live, IsSeenOver, Nothing, IsGone, is_gone}
 use Rattle.meaning_runs.proofs.MadeGroupsStand.{saves_grow}
 use Rattle.meaning_runs.proofs.Places.{called_now, exits≢runs, handed_there, handed_kept_there, handed_neither}
 use Rattle.meaning_runs.proofs.Remembered.{Origins, Past, with_block, behind, occurrence_of, no_past}
@@ -40,12 +40,14 @@ must_of_call : {p : Program} {caller : Body} (o : Origins) (s : Store) (b : Body
     → Contains passing.given x
     → x.value ≡ cancel_function a
     → TakesUp p caller passing.callee x.position
+    → o.least ≤ 1
     → MustCall p b (no_past o s b values groups nothing_around) a
-must_of_call o s b passing values groups is fits x a h e takes =
+must_of_call o s b passing values groups is fits x a h e takes deep =
     let t = takes.each b is in (
       t.0,
       of_flag t.1,
       ap (λ c. cond c (values t.0.number) nothing) (flag_is_its b t.0 t.1) ∙ fits.same t.0 x t.1.is_of_body h t.2 ∙ e,
+      subst (λ r. o.least ≤ level_in b.place.at r) (sym t.2) deep,
     )
 
 -- a function without a body that is known to call what it is given has done so when it returns: it is declared
@@ -71,12 +73,13 @@ literal_must : {p : Program} {b : Body} {o : Origins} {s : Store} {a : ℕ} (c :
     (groups : ℕ → Option ℕ)
     → SavesCall p b o s a (saved_literal c)
     → MustCall p c.literal (no_past o s c.literal values groups c.newest) a
-literal_must {s = s} c values groups (credits_it _ v k credited n l once h) = (
+literal_must {s = s} c values groups (credits_it _ v k credited n l once h deep) = (
   v,
   of_credit credited,
   ap (λ x. cond x (values v.number) (in_cell s v.number (c.newest v.number)))
       (captured_no_parameter c.literal v credited.is_of_body credited.is_captured)
       ∙ ap (in_cell s v.number) n ∙ h,
+  deep,
 )
 
 literal_awaits : {o : Origins} {s : Store} {group a : ℕ} (c : Closure) (values : ℕ → Value) (groups : ℕ → Option ℕ)
@@ -99,7 +102,7 @@ module _ {p : Program} {o : Origins} {s : Store} {place : Place} {q : Past} {f :
     same_grows : Grows nobody o o s s
     same_grows = contexts_grow nobody o s s (no_change s)
 
-    same_left : LeftStill o s o s
+    same_left : LeftStill p o s o s
     same_left = left_still (no_change s)
 
     elsewhere : frame_at place ≡ nobody → ⊥
@@ -109,12 +112,13 @@ module _ {p : Program} {o : Origins} {s : Store} {place : Place} {q : Past} {f :
 
     -- the frame stays in its code, where this sees to what the call has to
     waits_no_more : {after_o : Origins} {after : Store} {must_now : ℕ → Type 0} (grows : Grows nobody o after_o s after)
-        (still : LeftStill o s after_o after) (saved : List Saved)
+        (still : LeftStill p o s after_o after) (saved : List Saved)
         → ((x : Saved) → Contains f.saved x → Contains saved x)
         → ((passing : Passing) (x : Given) (a : ℕ) → f.waiting ≡ Some passing
         → Contains passing.given x
         → x.value ≡ cancel_function a
         → TakesUp p f.body passing.callee x.position
+        → o.least ≤ 1
         → IsSeen p after_o after must_now (record f { waiting = None; saved = saved }) ⊥ a)
         → IsCared p after_o after must_now q (record f { waiting = None; saved = saved })
     waits_no_more grows still saved more sees =
@@ -123,8 +127,8 @@ module _ {p : Program} {o : Origins} {s : Store} {place : Place} {q : Past} {f :
         (λ a bad. absurd bad) sees) cared
 
     block_left : (values : ℕ → Value) (groups : ℕ → Option ℕ)
-        → LeftStill o s (with_block o s.cell_count) (with_cells s values groups)
-    block_left values groups = left_same (λ g. refl) (λ g. refl)
+        → LeftStill p o s (with_block o s.cell_count) (with_cells s values groups)
+    block_left values groups = left_same (λ g. refl) (λ g. refl) (λ r h. h) refl
 
     -- the call is made: of a function, which has to see to what it is given
     pub cared_caller : (passing : Passing) (b : Body) (values : ℕ → Value) (groups : ℕ → Option ℕ)
@@ -135,14 +139,15 @@ module _ {p : Program} {o : Origins} {s : Store} {place : Place} {q : Past} {f :
         (SeenAbove p b (no_past o s b values groups nothing_around) Nothing) q (record f { waiting = None })
     cared_caller passing b values groups waits is fits =
         waits_no_more (block_grows nobody o s values groups) (block_left values groups) f.saved (λ x h. h)
-        (λ r x a w h e t. is_passed (inl (inl (its r x a (same_Some r passing (sym w ∙ waits)) h e t))))
+        (λ r x a w h e t l. is_passed (inl (inl (its r x a (same_Some r passing (sym w ∙ waits)) h e t l))))
       where
         its : (r : Passing) (x : Given) (a : ℕ) → r ≡ passing → Contains r.given x → x.value ≡ cancel_function a
             → TakesUp p f.body r.callee x.position
+            → o.least ≤ 1
             → MustCall p b (no_past o s b values groups nothing_around) a
-        its r x a same h e t =
+        its r x a same h e t l =
             must_of_call o s b passing values groups is fits x a (subst (λ (y : Passing). Contains y.given x) same h) e
-            (subst (λ (y : Passing). TakesUp p f.body y.callee x.position) same t)
+            (subst (λ (y : Passing). TakesUp p f.body y.callee x.position) same t) l
 
     -- or of one without a body, which has called what it is declared to call
     pub cared_outside : (passing : Passing) → f.waiting ≡ Some passing → HasNoBody p f.body passing.callee
@@ -150,7 +155,7 @@ module _ {p : Program} {o : Origins} {s : Store} {place : Place} {q : Past} {f :
         → IsCared p o s Nothing q (record f { waiting = None })
     cared_outside passing waits no_body holds =
         waits_no_more same_grows same_left f.saved (λ x h. h)
-        (λ r x a w h e t. was_called (its r x a (same_Some r passing (sym w ∙ waits)) h e t))
+        (λ r x a w h e t l. is_met (was_called (its r x a (same_Some r passing (sym w ∙ waits)) h e t)))
       where
         its : (r : Passing) (x : Given) (a : ℕ) → r ≡ passing → Contains r.given x → x.value ≡ cancel_function a
             → TakesUp p f.body r.callee x.position
@@ -163,8 +168,8 @@ module _ {p : Program} {o : Origins} {s : Store} {place : Place} {q : Past} {f :
         → IsCared p o s Nothing q (record f { waiting = None; saved = saved_pass passing ∷ f.saved })
     cared_saving_pass passing waits =
         waits_no_more same_grows same_left (saved_pass passing ∷ f.saved) (λ x h. contains_there (saved_pass passing) x f.saved h)
-        (λ r x a w h e t. subst (λ y. IsSeen p o s Nothing (record f { waiting = None; saved = saved_pass y ∷ f.saved }) ⊥ a)
-        (same_Some r passing (sym w ∙ waits)) (is_saved (saved_pass r) (contains_here (saved_pass r) f.saved) (passes_it r x h e t)))
+        (λ r x a w h e t l. subst (λ y. IsSeen p o s Nothing (record f { waiting = None; saved = saved_pass y ∷ f.saved }) ⊥ a)
+        (same_Some r passing (sym w ∙ waits)) (is_saved (saved_pass r) (contains_here (saved_pass r) f.saved) (passes_it r x h e t l)))
 
     pub cared_argument : (value : Value) → IsCared p o (calling s value) Nothing q f
     cared_argument value =
@@ -174,7 +179,7 @@ module _ {p : Program} {o : Origins} {s : Store} {place : Place} {q : Past} {f :
     -- What was saved runs
 
     module _ {after_o : Origins} {after : Store} {must_now : ℕ → Type 0} (grows : Grows nobody o after_o s after)
-        (still : LeftStill o s after_o after) {item : Saved} {left : List Saved} (r : RunsSaved f item left)
+        (still : LeftStill p o s after_o after) {item : Saved} {left : List Saved} (r : RunsSaved f item left)
       where
         pub cared_popping :
             ((a : ℕ) → SavesCall p f.body o s a item → IsSeen p after_o after must_now (record f { saved = left }) ⊥ a)
@@ -185,18 +190,18 @@ module _ {p : Program} {o : Origins} {s : Store} {place : Place} {q : Past} {f :
         cared_popping runs_it waits_it =
             cared_goes grows still elsewhere it f.stage f.waiting left (λ c e. absurd (exits≢runs c (sym r.stage ∙ e)))
             (λ e. e) record {
-              called = grows.called;
+              met = met_grows grows;
               saves = λ x a h c. elim (cases x h) [
                 | inl same ↦ runs_it a (subst (λ y. SavesCall p f.body o s a y) (sym same) c)
                 | inr i ↦ is_saved x i (saves_call_grows grows a x c)
               ];
               musts = λ a bad. absurd bad;
               waits = λ passing x a w. absurd (none-some passing (sym (it.none_waits r.stage) ∙ w));
-              made = λ group a h l. left_or_called still group a (λ x. left_to_made group h x) (λ x. was_called x) l;
+              made = λ group a h l. left_or_met still group a (λ x. left_to_made group h x) (λ x. is_met x) l;
               awaited = λ group x a h w l. elim (cases x h) [
                 | inl same ↦ waits_it group a (subst (λ y. SavesWait o s group y) (sym same) w) l
-                | inr i ↦ left_or_called still group a (λ y. left_to_awaited group x i (saves_grow grows group x w) y)
-                    (λ y. was_called y) l
+                | inr i ↦ left_or_met still group a (λ y. left_to_awaited group x i (saves_grow grows group x w) y)
+                    (λ y. is_met y) l
               ];
             } cared
           where
@@ -208,7 +213,7 @@ module _ {p : Program} {o : Origins} {s : Store} {place : Place} {q : Past} {f :
     cared_running_call {value} r =
         cared_popping (contexts_grow nobody o s (calling s value) (calling_changes s value))
         (left_still (calling_changes s value)) r
-        (λ a c. was_called (called_now s value a (call_of c))) (λ group a w l. elim w [ ])
+        (λ a c. is_met (was_called (called_now s value a (call_of c)))) (λ group a w l. elim w [ ])
 
     pub cared_running_pass : {passing : Passing} {left : List Saved} → RunsSaved f (saved_pass passing) left
         → (b : Body) (values : ℕ → Value) (groups : ℕ → Option ℕ)
@@ -223,7 +228,7 @@ module _ {p : Program} {o : Origins} {s : Store} {place : Place} {q : Past} {f :
         its : (a : ℕ) → SavesCall p f.body o s a (saved_pass passing)
             → IsSeen p (with_block o s.cell_count) (with_cells s values groups)
             (SeenAbove p b (no_past o s b values groups nothing_around) Nothing) (record f { saved = left }) ⊥ a
-        its a (passes_it _ x h e t) = is_passed (inl (inl (must_of_call o s b passing values groups is fits x a h e t)))
+        its a (passes_it _ x h e t l) = is_passed (inl (inl (must_of_call o s b passing values groups is fits x a h e t l)))
 
     pub cared_running_outside : {passing : Passing} {left : List Saved} → RunsSaved f (saved_pass passing) left
         → HasNoBody p f.body passing.callee
@@ -233,7 +238,7 @@ module _ {p : Program} {o : Origins} {s : Store} {place : Place} {q : Past} {f :
         cared_popping same_grows same_left r (λ a c. its a c) (λ group a w l. elim w [ ])
       where
         its : (a : ℕ) → SavesCall p f.body o s a (saved_pass passing) → IsSeen p o s Nothing (record f { saved = left }) ⊥ a
-        its a (passes_it _ x h e t) = was_called (called_there s passing no_body holds x a h e t)
+        its a (passes_it _ x h e t l) = is_met (was_called (called_there s passing no_body holds x a h e t))
 
     pub cared_running_literal : {c : Closure} {left : List Saved} → RunsSaved f (saved_literal c) left
         → (values : ℕ → Value) (groups : ℕ → Option ℕ)
@@ -269,15 +274,16 @@ module _ {p : Program} {o : Origins} {s : Store} {place : Place} {q : Past} {f :
           → IsCared p o s Nothing (behind q d.comes_to) (back handed)
       cared_returning {handed} {rest} d = cared_on record {
         same_body = refl;
+        same_least = refl;
         sees = sees_more same_grows same_left (back handed) refl (λ x h. h) (λ group h. h) (λ a bad. absurd bad)
             (λ passing x a w. absurd (none-some passing (sym d.none_waits ∙ w)));
         hands = λ a h. elim h [
           | inl x ↦ absurd (exits≢runs d.comes_to.goes_on.code (sym x.0 ∙ d.comes_to.goes_on.stage))
           | inr x ↦ inr x
         ];
-        obtained = λ relies a none h. inl h;
-        own = own;
-        duty = duty;
+        obtained = λ relies a top none h. inl h;
+        own = λ relies v a top none its h. own relies v a none its h;
+        duty = λ relies v a deep under h. duty relies v a under h;
         awaits = λ relies v group a under h.
             absurd (under.never_live handed q.events (occurrence_of d.comes_to) (returns relies) h.is_live.is_live);
       } cared
@@ -384,22 +390,26 @@ module _ {p : Program} {o : Origins} {s : Store} {place : Place} {q : Past} {f :
           saves_none x h = contains_nil x (subst (λ l. Contains l x) ended.saved h)
 
           settled_over : (relies : Promises) (v : Variable) (a : ℕ) → IsSettled relies o s Nothing Nothing q f v a
-              → IsOver s Nothing a
-          settled_over relies v a (is_over h) = h
+              → IsOver s Nothing a ⊎ IsGone o a
+          settled_over relies v a (is_over h) = inl h
+          settled_over relies v a (is_gone h) = inr h
           settled_over relies v a (is_saved_for x h w) = absurd (saves_none x h)
           settled_over relies v a (is_above bad) = absurd bad
           settled_over relies v a (is_live h) = absurd (exits≢runs h.code (sym ended.stage ∙ h.stage))
 
-          pub made_over : (a : ℕ) → Contains f.made a → IsOver s Nothing a
+          pub made_over : (a : ℕ) → Contains f.made a → IsOver s Nothing a ⊎ IsGone o a
           made_over a h = let r = over.made none.0 a none.1 h in settled_over none.0 r.0 a r.2
 
-          seen_at_end : {Open : Type 0} (a : ℕ) → (Open → ⊥) → IsSeen p o s Nothing f Open a → Contains s.called a
-          seen_at_end a closed (was_called h) = h
+          seen_at_end : {Open : Type 0} (a : ℕ) → (Open → ⊥) → IsSeen p o s Nothing f Open a → IsMet p o s a
+          seen_at_end a closed (is_met h) = h
           seen_at_end a closed (is_saved x h c) = absurd (saves_none x h)
           seen_at_end a closed (is_passed bad) = absurd bad
-          seen_at_end a closed (is_waiting passing x w h e t) =
+          seen_at_end a closed (is_waiting passing x w h e t l) =
               absurd (none-some passing (sym (it.none_waits ended.stage) ∙ w))
-          seen_at_end a closed (left_to_made group h l) = absurd (none_left group a (made_over group h).has_no_member l)
+          seen_at_end a closed (left_to_made group h l) = elim (made_over group h) [
+            | inl over ↦ absurd (none_left group a over.has_no_member l)
+            | inr gone ↦ is_taken (left_is_taken group a gone.has_gone l)
+          ]
           seen_at_end a closed (left_to_awaited group x h w l) = absurd (saves_none x h)
           seen_at_end a closed (is_open h) = absurd (closed h)
 
@@ -408,16 +418,16 @@ module _ {p : Program} {o : Origins} {s : Store} {place : Place} {q : Past} {f :
           closed_at_end relies v a (is_kept c stage k declared h keeps) = exits≢runs c (sym ended.stage ∙ stage)
           closed_at_end relies v a (is_pending k h) = exits≢runs k.code (sym ended.stage ∙ k.stage)
 
-          pub owed_at_end : (a : ℕ) → Owes f a → Contains s.called a
-          owed_at_end a owes = elim (cared.obtained none.0 a none.1 owes.was_obtained) [
+          pub owed_at_end : (a : ℕ) → o.least ≡ 0 → Owes f a → IsMet p o s a
+          owed_at_end a top owes = elim (cared.obtained none.0 a top none.1 owes.was_obtained) [
             | inl h ↦ elim h [ inl x ↦ absurd (owes.is_kept x.1) | inr x ↦ absurd (owes.is_its_own x) ]
             | inr r ↦ seen_at_end a (closed_at_end none.0 r.0 a) r.2
           ]
 
-          pub must_at_end : (a : ℕ) → MustSee p f.body q a → Contains s.called a
+          pub must_at_end : (a : ℕ) → MustSee p f.body q a → IsMet p o s a
           must_at_end a (inl x) =
               let r = relied x.0 x.1 in
-              seen_at_end a (closed_at_end r.0 x.0 a) (cared.duties r.0 x.0 a r.1 x.2)
+              seen_at_end a (closed_at_end r.0 x.0 a) (cared.duties r.0 x.0 a (subst (λ n. n ≤ level f.body x.0) cared.same_least x.3) r.1 x.2)
           must_at_end a (inr x) =
               let r = waited x.0 x.2 in
               seen_at_end a (λ (h : IsStillLeft r.0 o s q f x.0 x.1 a). exits≢runs h.is_live.code (sym ended.stage ∙ h.is_live.stage))

@@ -1,14 +1,14 @@
 -- What the running frame does at an event that binds nothing keeps what is said of its cancel functions.
-use Rattle.std.proofs.Common.{◌≡◌, ℕ, ◌⊎◌, inl, inr, Bool, true, false, cond, List, [], ◌∷◌, Option, Some, None, Contains, refl, sym, ap, ◌∙◌, subst}
+use Rattle.std.proofs.Common.{◌≡◌, ℕ, ◌+◌, ◌<◌, ◌≤◌, arith, ◌⊎◌, inl, inr, Bool, true, false, cond, List, [], ◌∷◌, Option, Some, None, Contains, refl, sym, ap, ◌∙◌, subst}
 use Rattle.std.specs.Prelude.{◌==◌, ◌&&◌}
 use Rattle.std.proofs.lemmas.Bool.{cases_Bool, cases_eq, eq-eqb, ne_eqb}
 use Rattle.std.proofs.lemmas.Option.{none-some}
 use Rattle.meaning.specs.Code.{Code}
 use Rattle.meaning.specs.FunctionFacts.{cancel, group as group_kind}
 use Rattle.meaning.specs.Tracked.{live}
-use Rattle.meaning.specs.Uses.{Callee, VariableAt, Event, other, call, defer_call, lend, try, wait, defer_wait, defer_literal}
-use Rattle.meaning.specs.BodyEvents.{Variable}
-use Rattle.meaning.specs.Classes.{Promises, CancelClass, opened, kept, safe, pending, left_to, started, change_cancel, GroupClass, in_state, awaited, at_work, at_rest, change_group}
+use Rattle.meaning.specs.Uses.{Callee, VariableAt, Event, other, call, defer_call, lend, try, wait, defer_wait, defer_literal, Work, go_literal, go}
+use Rattle.meaning.specs.BodyEvents.{Variable, VariableRole, own_parameter, own_receiver, declared_in_body, captured}
+use Rattle.meaning.specs.Classes.{Promises, CancelClass, opened, kept, safe, pending, left_to, started, waited_over, change_cancel, GroupClass, in_state, awaited, at_work, at_rest, change_group}
 use Rattle.meaning.proofs.Membership.{contains_here, contains_there}
 use Rattle.meaning_packages.specs.PathFaults.{is_declared}
 use Rattle.meaning_reports.specs.UsedImports.{HandsTo}
@@ -16,8 +16,8 @@ use Rattle.meaning_runs.specs.Bodies.{Program, Body, IsLiteralIn, variables_in}
 use Rattle.meaning_runs.specs.World.{nothing, cancel_function, nobody, Place, Store, MayEndWait, calling, waiting_for, Given, Lent, Passing, Closure, Saved, saved_call, saved_literal, saved_wait, runs, Frame, in_cell, held, held_group}
 use Rattle.meaning_runs.specs.Steps.{GoesOn, ComesTo, DoesNext, MayJoin, is_first, is_next, joining, evaluating, lending, at_code, Starts, by_start, by_try}
 use Rattle.meaning_runs.specs.Duties.{TakesUp, IsWaitingFor, AreTakenUp}
-use Rattle.meaning_runs.proofs.CaredFor.{IsLeftTo, calls_it, credits_it, IsOtherGroup, IsPending, IsOpen, is_held, is_kept, is_pending, IsStillLeft, IsSeen, was_called, is_saved, is_waiting, left_to_made, left_to_awaited, is_open, IsCared, relied_there, AreKept}
-use Rattle.meaning_runs.proofs.CaredGoesOn.{LeftStill, left_same, none_left, left_or_called, seen_anyway, cared_on, still_value, sees_more, cared_goes}
+use Rattle.meaning_runs.proofs.CaredFor.{level_in, level, IsMet, was_called, IsLeftTo, calls_it, credits_it, IsOtherGroup, IsPending, IsOpen, is_held, is_kept, is_pending, IsStillLeft, IsSeen, is_met, is_saved, is_waiting, left_to_made, left_to_awaited, is_open, IsCared, relied_there, AreKept}
+use Rattle.meaning_runs.proofs.CaredGoesOn.{LeftStill, left_same, none_left, left_or_met, seen_anyway, cared_on, still_value, sees_more, cared_goes}
 use Rattle.meaning_runs.proofs.GroupClasses.{group_next, work_live, starting_change, named_so, named_otherwise}
 use Rattle.meaning_runs.proofs.GroupPaths.{is_made, made_works, still_works, group_class_of, IsWorking}
 use Rattle.meaning_runs.proofs.Holders.{Grows, IsHolder}
@@ -50,8 +50,27 @@ abbrev pub IsItsCancel : Body → Variable → Type 0
 IsItsCancel b v = Contains (variables_in b) v × (v.kind ≡ cancel)
 
 -- a store that changed in contexts and calls alone has the members that it had
-pub left_still : {o : Origins} {s after : Store} → ChangesContexts s after → LeftStill o s o after
-left_still changes = left_same (λ g. ap (λ (m : ℕ → Option ℕ). m g) changes.same_member) (λ g. refl)
+pub left_still : {p : Program} {o : Origins} {s after : Store} → ChangesContexts s after → LeftStill p o s o after
+left_still changes =
+    left_same (λ g. ap (λ (m : ℕ → Option ℕ). m g) changes.same_member) (λ g. refl) (λ r h. h) refl
+
+-- nothing of a body stands deeper than what its literals capture
+pub level_low : (b : Body) (v : Variable) → level b v ≤ b.place.at + 2
+level_low b v = by v.role
+  where
+    by : (r : VariableRole) → level_in b.place.at r ≤ b.place.at + 2
+    by declared_in_body = omega arith
+    by (own_parameter k) = omega arith
+    by own_receiver = omega arith
+    by captured = omega arith
+
+-- so what a literal in it captures stands deeper
+pub goes_deeper : (least : ℕ) (b literal : Body) (u v : Variable) → least ≤ level b u → b.place.at < literal.place.at
+    → v.role ≡ captured
+    → least < level literal v
+goes_deeper least b literal u v deep behind is =
+    let low = level_low b u in
+    subst (λ r. least < level_in literal.place.at r) (sym is) (omega (arith, deep, behind, low))
 
 -- a try leaves nothing to a member, of which it is not known that it begins
 start_changes : (e : Event) (v : ℕ) (literal : Option ℕ) → Starts e v literal
@@ -75,7 +94,7 @@ module _ {p : Program} {o : Origins} {s : Store} {place : Place} {q : Past} {f :
   where
     -- It goes past an event, in a store where it wrote nothing; others may have become members.
     module _ {after_o : Origins} {after : Store} (grows : Grows nobody o after_o s after)
-        (still : LeftStill o s after_o after) {e : Event} {rest : Code Event} (d : ComesTo f e rest)
+        (still : LeftStill p o s after_o after) {e : Event} {rest : Code Event} (d : ComesTo f e rest)
         (waiting : Option Passing) (saved : List Saved)
       where
         abbrev pub gone : Frame
@@ -150,9 +169,9 @@ module _ {p : Program} {o : Origins} {s : Store} {place : Place} {q : Past} {f :
             → held s f v.number ≡ cancel_function a
             → SeenNow (OpenNow relies v a) a
         pending_still relies v a k stays works h =
-            left_or_called still k.group a (left_in relies v a k.left_to k.group
+            left_or_met still k.group a (left_in relies v a k.left_to k.group
             (ap (λ c. change_cancel relies v.number e c) k.is_pending ∙ stays) k.is_other works k.is_held h)
-            (λ x. was_called x) k.is_left
+            (λ x. is_met x) k.is_left
 
         -- the event keeps a group at work that the body does not make
         abbrev pub Works : Promises → Type 0
@@ -184,7 +203,7 @@ module _ {p : Program} {o : Origins} {s : Store} {place : Place} {q : Past} {f :
             → IsStillLeft relies o s q f v group a
             → SeenNow (LeftNow relies v group a) a
         live_still relies v group a stays h =
-            left_or_called still group a (λ l. is_open record {
+            left_or_met still group a (λ l. is_open record {
               is_live = record {
                 code = rest;
                 stage = refl;
@@ -192,7 +211,7 @@ module _ {p : Program} {o : Origins} {s : Store} {place : Place} {q : Past} {f :
                 is_held = group_now v.number ∙ h.is_live.is_held;
               };
               is_left = l;
-            }) (λ x. was_called x) h.is_left
+            }) (λ x. is_met x) h.is_left
 
         -- what a call under way has to see to
         abbrev pub WaitsOn : Type 0
@@ -200,6 +219,7 @@ module _ {p : Program} {o : Origins} {s : Store} {place : Place} {q : Past} {f :
             → Contains passing.given x
             → x.value ≡ cancel_function a
             → TakesUp p f.body passing.callee x.position
+            → o.least ≤ 1
             → SeenNow ⊥ a
 
         pub none_wait : f.waiting ≡ None → WaitsOn
@@ -207,7 +227,8 @@ module _ {p : Program} {o : Origins} {s : Store} {place : Place} {q : Past} {f :
 
         pub cared_event : WaitsOn
             → ((x : Saved) → Contains f.saved x → Contains saved x)
-            → ((relies : Promises) (v : Variable) (a : ℕ) → AreTakenUp p f.body relies
+            → ((relies : Promises) (v : Variable) (a : ℕ) → o.least ≤ level f.body v
+            → AreTakenUp p f.body relies
             → IsItsCancel f.body v
             → IsOpen relies o s q f v a
             → SeenNow (OpenNow relies v a) a)
@@ -218,23 +239,24 @@ module _ {p : Program} {o : Origins} {s : Store} {place : Place} {q : Past} {f :
             → IsCared p after_o after Nothing (behind q d) gone
         cared_event waits more opens lives = cared_on record {
           same_body = refl;
+          same_least = grows.same_least;
           sees = sees_more grows still gone refl more (λ group h. h) (λ a bad. absurd bad) waits;
           hands = λ a h. elim h [
             | inl x ↦ absurd (exits≢runs d.goes_on.code (sym x.0 ∙ d.goes_on.stage))
             | inr x ↦ inr x
           ];
-          obtained = λ relies a none h. inl h;
-          own = λ relies v a none own h.
-              inr (opens relies v a none.are_taken_up (own.is_of_body, own.is_cancel_variable) h);
-          duty = λ relies v a under h.
-              opens relies v a under.are_taken_up (relied_there p f.body v under.is_relied) h;
+          obtained = λ relies a top none h. inl h;
+          own = λ relies v a top none own h.
+              inr (opens relies v a (omega (arith, top)) none.are_taken_up (own.is_of_body, own.is_cancel_variable) h);
+          duty = λ relies v a deep under h.
+              opens relies v a deep under.are_taken_up (relied_there p f.body v under.is_relied) h;
           awaits = λ relies v group a under h. lives relies v group a under.are_taken_up under.waits_for h;
         } cared
 
     same_grows : Grows nobody o o s s
     same_grows = contexts_grow nobody o s s (no_change s)
 
-    same_left : LeftStill o s o s
+    same_left : LeftStill p o s o s
     same_left = left_still (no_change s)
 
     pub cared_other : {rest : Code Event} (d : DoesNext f other rest)
@@ -243,7 +265,7 @@ module _ {p : Program} {o : Origins} {s : Store} {place : Place} {q : Past} {f :
         let c = d.comes_to in
         cared_event same_grows same_left c f.waiting f.saved (none_wait same_grows same_left c f.waiting f.saved d.none_waits)
         (λ x h. h)
-        (λ relies v a up its h. safely same_grows same_left c f.waiting f.saved relies v a (inl (λ k. refl)) (λ u is k w. w) h)
+        (λ relies v a deep up its h. safely same_grows same_left c f.waiting f.saved relies v a (inl (λ k. refl)) (λ u is k w. w) h)
         (λ relies v group a up waits h. live_still same_grows same_left c f.waiting f.saved relies v group a refl h)
 
     pub cared_silent : {rest : Code Event} (d : GoesOn f None rest) → IsCared p o s Nothing q (at_code f rest)
@@ -251,13 +273,13 @@ module _ {p : Program} {o : Origins} {s : Store} {place : Place} {q : Past} {f :
         cared_goes same_grows same_left (frame-nobody place) it (runs rest) f.waiting f.saved (λ c e. (rest, refl))
         (λ e. absurd (exits≢runs d.code (sym e ∙ d.stage)))
         (sees_more same_grows same_left (at_code f rest) refl (λ x h. h) (λ group h. h) (λ a bad. absurd bad)
-        (λ passing x a w h e t. is_waiting passing x w h e t)) cared
+        (λ passing x a w h e t l. is_waiting passing x w h e t l)) cared
 
     pub cared_calling : {v : ℕ} {rest : Code Event} (d : DoesNext f (call v) rest)
         → IsCared p o (calling s (held s f v)) Nothing (behind q d.comes_to) (at_code f rest)
     cared_calling {v} {rest} d =
         cared_event grows still c f.waiting f.saved (none_wait grows still c f.waiting f.saved d.none_waits) (λ x h. h)
-        (λ relies u a up its h. safely grows still c f.waiting f.saved relies u a (by_number relies u a (cases_eq v u.number)) (λ w is k i. i) h)
+        (λ relies u a deep up its h. safely grows still c f.waiting f.saved relies u a (by_number relies u a (cases_eq v u.number)) (λ w is k i. i) h)
         (λ relies u group a up waits h. live_still grows still c f.waiting f.saved relies u group a refl h)
       where
         c : ComesTo f (call v) rest
@@ -269,13 +291,13 @@ module _ {p : Program} {o : Origins} {s : Store} {place : Place} {q : Past} {f :
         grows : Grows nobody o o s after
         grows = contexts_grow nobody o s after (calling_changes s (held s f v))
 
-        still : LeftStill o s o after
+        still : LeftStill p o s o after
         still = left_still (calling_changes s (held s f v))
 
         by_number : (relies : Promises) (u : Variable) (a : ℕ) → (v ≡ u.number) ⊎ (v ≡ u.number → ⊥)
             → IsSafe grows still c f.waiting f.saved relies u a
         by_number relies u a (inl same) =
-            inr (λ h. was_called (called_now s (held s f v) a (ap (held s f) same ∙ h)))
+            inr (λ h. is_met (was_called (called_now s (held s f v) a (ap (held s f) same ∙ h))))
         by_number relies u a (inr ne) = inl (λ k. named_otherwise v u.number safe k ne)
 
     pub cared_saving_call : {v : ℕ} {rest : Code Event} (d : DoesNext f (defer_call v) rest)
@@ -284,7 +306,7 @@ module _ {p : Program} {o : Origins} {s : Store} {place : Place} {q : Past} {f :
     cared_saving_call {v} {rest} d =
         cared_event same_grows same_left c f.waiting saved (none_wait same_grows same_left c f.waiting saved d.none_waits)
         (λ x h. contains_there item x f.saved h)
-        (λ relies u a up its h. safely same_grows same_left c f.waiting saved relies u a (by_number relies u a (cases_eq v u.number)) (λ w is k i. i) h)
+        (λ relies u a deep up its h. safely same_grows same_left c f.waiting saved relies u a (by_number relies u a (cases_eq v u.number)) (λ w is k i. i) h)
         (λ relies u group a up waits h. live_still same_grows same_left c f.waiting saved relies u group a refl h)
       where
         c : ComesTo f (defer_call v) rest
@@ -308,9 +330,9 @@ module _ {p : Program} {o : Origins} {s : Store} {place : Place} {q : Past} {f :
     joins_on : {e : Event} {rest : Code Event} (d : ComesTo f e rest) (callee : Callee) (is_deferred : Bool)
         (xs : List Given) (ys : List Lent)
         → WaitsOn same_grows same_left d (Some (joining f.waiting callee is_deferred (xs) ys)) f.saved
-    joins_on d callee is_deferred xs ys passing x a w h e t =
+    joins_on d callee is_deferred xs ys passing x a w h e t l =
         is_waiting (joining (Some passing) callee is_deferred xs ys) x
-        (ap (λ (m : Option Passing). Some (joining m callee is_deferred xs ys)) w) (behind_all xs) e t
+        (ap (λ (m : Option Passing). Some (joining m callee is_deferred xs ys)) w) (behind_all xs) e t l
       where
         behind_all : (zs : List Given) → Contains (joining (Some passing) callee is_deferred zs ys).given x
         behind_all [] = h
@@ -323,11 +345,12 @@ module _ {p : Program} {o : Origins} {s : Store} {place : Place} {q : Past} {f :
         → change_cancel relies v e k ≡ cond ((u.number == v) && relies.calls callee position) safe k)
         → ((relies : Promises) (v : ℕ) (k : GroupClass) → change_group relies v e k ≡ k)
         → HandsTo callee e
+        → ((v : Variable) → Contains (variables_in f.body) v → u.number ≡ v.number → level f.body v ≤ 1)
         → IsCared p o s Nothing (behind q d) (evaluating s f u.number callee position is_deferred rest)
-    cared_evaluating {e = e} {rest = rest} u callee position is_deferred d joins changes keeps hands =
+    cared_evaluating {e = e} {rest = rest} u callee position is_deferred d joins changes keeps hands low =
         cared_event same_grows same_left d waiting f.saved (joins_on d callee is_deferred (x ∷ []) []) (λ y h. h)
-        (λ relies v a up its h. safely same_grows same_left d waiting f.saved relies v a
-        (by_number relies v a up (cases_eq u.number v.number) (cases_Bool (relies.calls callee position)))
+        (λ relies v a deep up its h. safely same_grows same_left d waiting f.saved relies v a
+        (by_number relies v a deep its.0 up (cases_eq u.number v.number) (cases_Bool (relies.calls callee position)))
         (λ w is k i. subst IsWorking (sym (keeps relies w.number k)) i) h)
         (λ relies v group a up waits h.
         live_still same_grows same_left d waiting f.saved relies v group a (keeps relies v.number (in_state live)) h)
@@ -341,19 +364,22 @@ module _ {p : Program} {o : Origins} {s : Store} {place : Place} {q : Past} {f :
         waiting : Option Passing
         waiting = Some joined
 
-        by_number : (relies : Promises) (v : Variable) (a : ℕ) → AreTakenUp p f.body relies
+        by_number : (relies : Promises) (v : Variable) (a : ℕ) → o.least ≤ level f.body v
+            → Contains (variables_in f.body) v
+            → AreTakenUp p f.body relies
             → (u.number ≡ v.number) ⊎ (u.number ≡ v.number → ⊥)
             → (relies.calls callee position ≡ true) ⊎ (relies.calls callee position ≡ false)
             → IsSafe same_grows same_left d waiting f.saved relies v a
-        by_number relies v a up (inl same) (inl calls) = inr (λ h.
+        by_number relies v a deep among up (inl same) (inl calls) = inr (λ h.
             is_waiting joined x refl (joined_has f.waiting callee is_deferred x) (ap (held s f) same ∙ h)
             (subst (λ g. TakesUp p f.body g position)
             (sym (joined_callee f.waiting callee is_deferred position (x ∷ []) [] joins))
-            (up.functions callee position (hands_there f.body it.is_of.is_body callee q.events (occurrence_of d) (reached p o s place q f it e rest d) hands) calls)))
-        by_number relies v a up (inl same) (inr calls) = inl (λ k. changes relies v.number k
+            (up.functions callee position (hands_there f.body it.is_of.is_body callee q.events (occurrence_of d) (reached p o s place q f it e rest d) hands) calls))
+            (let one = low v among same in omega (arith, deep, one)))
+        by_number relies v a deep among up (inl same) (inr calls) = inl (λ k. changes relies v.number k
             ∙ ap (λ b. cond (b && relies.calls callee position) safe k) (eq-eqb u.number v.number same)
             ∙ ap (λ b. cond b safe k) calls)
-        by_number relies v a up (inr ne) calls = inl (λ k. changes relies v.number k
+        by_number relies v a deep among up (inr ne) calls = inl (λ k. changes relies v.number k
             ∙ ap (λ b. cond (b && relies.calls callee position) safe k) (ne_eqb u.number v.number ne))
 
     pub cared_lending : {v : ℕ} {callee : Callee} {position : ℕ} {rest : Code Event}
@@ -361,7 +387,7 @@ module _ {p : Program} {o : Origins} {s : Store} {place : Place} {q : Past} {f :
         → IsCared p o s Nothing (behind q d) (lending s f v callee position rest)
     cared_lending {v} {callee} {position} d =
         cared_event same_grows same_left d waiting f.saved (joins_on d callee false [] (y ∷ [])) (λ x h. h)
-        (λ relies u a up its h. safely same_grows same_left d waiting f.saved relies u a (inl (λ k. refl))
+        (λ relies u a deep up its h. safely same_grows same_left d waiting f.saved relies u a (inl (λ k. refl))
         (λ w is k i. works_at_work (v == w.number) k i) h)
         (λ relies u group a up waits h. live_still same_grows same_left d waiting f.saved relies u group a
         (work_live (v == u.number) (in_state live) refl) h)
@@ -380,7 +406,7 @@ module _ {p : Program} {o : Origins} {s : Store} {place : Place} {q : Past} {f :
         let c = d.comes_to in
         cared_event same_grows same_left c f.waiting f.saved (none_wait same_grows same_left c f.waiting f.saved d.none_waits)
         (λ x h. h)
-        (λ relies u a up its h. safely same_grows same_left c f.waiting f.saved relies u a (inl (λ k. refl))
+        (λ relies u a deep up its h. safely same_grows same_left c f.waiting f.saved relies u a (inl (λ k. refl))
         (λ w is k i. works_at_work (v == w.number) k i) h)
         (λ relies u group a up waits h. live_still same_grows same_left c f.waiting f.saved relies u group a
         (work_live (v == u.number) (in_state live) refl) h)
@@ -389,7 +415,7 @@ module _ {p : Program} {o : Origins} {s : Store} {place : Place} {q : Past} {f :
         → IsCared p o (waiting_for s (held_group s f v)) Nothing (behind q d.comes_to) (at_code f rest)
     cared_waiting {v} {rest} d ends =
         cared_event grows still c f.waiting f.saved (none_wait grows still c f.waiting f.saved d.none_waits) (λ x h. h)
-        (λ relies u a up its h. opens relies u a h)
+        (λ relies u a deep up its h. opens relies u a h)
         (λ relies u group a up waits h. lives relies u group a h (cases_eq v u.number))
       where
         c : ComesTo f (wait v) rest
@@ -401,7 +427,7 @@ module _ {p : Program} {o : Origins} {s : Store} {place : Place} {q : Past} {f :
         grows : Grows nobody o o s after
         grows = contexts_grow nobody o s after (waiting_changes s (held_group s f v))
 
-        still : LeftStill o s o after
+        still : LeftStill p o s o after
         still = left_still (waiting_changes s (held_group s f v))
 
         nobody_there : (u group a : ℕ) → held_group s f u ≡ Some group → IsLeftTo o s group a → v ≡ u → ⊥
@@ -441,7 +467,7 @@ module _ {p : Program} {o : Origins} {s : Store} {place : Place} {q : Past} {f :
     cared_saving_wait {v} {rest} d =
         cared_event same_grows same_left c f.waiting saved (none_wait same_grows same_left c f.waiting saved d.none_waits)
         (λ x h. contains_there item x f.saved h)
-        (λ relies u a up its h. safely same_grows same_left c f.waiting saved relies u a (inl (λ k. refl))
+        (λ relies u a deep up its h. safely same_grows same_left c f.waiting saved relies u a (inl (λ k. refl))
         (λ w is k i. works_or_awaited (v == w.number) k i) h)
         (λ relies u group a up waits h. lives relies u group a h (cases_eq v u.number))
       where
@@ -474,8 +500,8 @@ module _ {p : Program} {o : Origins} {s : Store} {place : Place} {q : Past} {f :
       cared_saving_literal {at} {rest} b d is_in is_at =
           cared_event same_grows same_left c f.waiting saved (none_wait same_grows same_left c f.waiting saved d.none_waits)
           (λ x h. contains_there item x f.saved h)
-          (λ relies u a up its h. safely same_grows same_left c f.waiting saved relies u a
-          (by_credit relies u a up its (cases_Bool (relies.credits at u.number)))
+          (λ relies u a deep up its h. safely same_grows same_left c f.waiting saved relies u a
+          (by_credit relies u a deep up its (cases_Bool (relies.credits at u.number)))
           (λ w is k i. works_or_awaited (relies.credits at w.number) k i) h)
           (λ relies u group a up waits h. lives relies u group a up waits h (cases_Bool (relies.credits at u.number)))
         where
@@ -491,17 +517,20 @@ module _ {p : Program} {o : Origins} {s : Store} {place : Place} {q : Past} {f :
           saved : List Saved
           saved = item ∷ f.saved
 
-          by_credit : (relies : Promises) (u : Variable) (a : ℕ) → AreTakenUp p f.body relies
+          by_credit : (relies : Promises) (u : Variable) (a : ℕ) → o.least ≤ level f.body u
+              → AreTakenUp p f.body relies
               → IsItsCancel f.body u
               → (relies.credits at u.number ≡ true) ⊎ (relies.credits at u.number ≡ false)
               → IsSafe same_grows same_left c f.waiting saved relies u a
-          by_credit relies u a up its (inr no_credit) = inl (λ k. ap (λ x. cond x safe k) no_credit)
-          by_credit relies u a up its (inl credit) = inr (λ h.
+          by_credit relies u a deep up its (inr no_credit) = inl (λ k. ap (λ x. cond x safe k) no_credit)
+          by_credit relies u a deep up its (inl credit) = inr (λ h.
               let t = up.literals u b its.0 its.1 is_in (ap (λ n. relies.credits n u.number) is_at ∙ credit) in
               let w = t.0 in
               let r = in_cell_some s w.number a (f.newest w.number) (ap (held s f) t.2 ∙ h) in
               is_saved item (contains_here item f.saved) (credits_it closure w r.0 t.1 r.1 (it.cells_in w.number r.0 r.1)
-              (captured_is_frozen p used o s place q f it b is_in w.number r.0 r.1 (credit_is_captured b w t.1)) r.2))
+              (captured_is_frozen p used o s place q f it b is_in w.number r.0 r.1 (credit_is_captured b w t.1)) r.2
+              (let far = goes_deeper o.least f.body b u w deep (used.begins_behind f.body b it.is_of is_in) t.1.is_captured in
+              omega (arith, far))))
 
           lives : (relies : Promises) (u : Variable) (group a : ℕ) → AreTakenUp p f.body relies
               → IsWaitingFor f.body u
@@ -521,14 +550,107 @@ module _ {p : Program} {o : Origins} {s : Store} {place : Place} {q : Past} {f :
               (by_literal closure w r.0 t.1 r.1 (it.cells_in w.number r.0 r.1)
               (captured_is_frozen p used o s place q f it b is_in w.number r.0 r.1 (wait_is_captured b w t.1)) r.2) h.is_left
 
+    -- a goroutine is started, which takes on some of what variables hold
+    module _ {after_o : Origins} {after : Store} (grows : Grows nobody o after_o s after)
+        (still : LeftStill p o s after_o after) {work : Work} {rest : Code Event} (d : DoesNext f (go work) rest)
+        (takes : Promises → ℕ → Bool)
+      where
+        abbrev pub MeetsTaken : Type 0
+        MeetsTaken = (relies : Promises) (u : Variable) (a : ℕ) → o.least ≤ level f.body u
+            → AreTakenUp p f.body relies
+            → IsItsCancel f.body u
+            → takes relies u.number ≡ true
+            → held s f u.number ≡ cancel_function a
+            → IsMet p after_o after a
+
+        pub cared_taking :
+            ((relies : Promises) (u : ℕ) (k : CancelClass)
+            → change_cancel relies u (go work) k ≡ cond (takes relies u) safe k)
+            → ((relies : Promises) (u : ℕ) (k : GroupClass) → change_group relies u (go work) k ≡ k)
+            → MeetsTaken
+            → IsCared p after_o after Nothing (behind q d.comes_to) (at_code f rest)
+        cared_taking changes groups met =
+            cared_event grows still c f.waiting f.saved (none_wait grows still c f.waiting f.saved d.none_waits) (λ x h. h)
+            (λ relies u a deep up its h. safely grows still c f.waiting f.saved relies u a
+            (by_test relies u a deep up its (cases_Bool (takes relies u.number)))
+            (λ w is k i. subst IsWorking (sym (groups relies w.number k)) i) h)
+            (λ relies u group a up waits h.
+            live_still grows still c f.waiting f.saved relies u group a (groups relies u.number (in_state live)) h)
+          where
+            c : ComesTo f (go work) rest
+            c = d.comes_to
+
+            by_test : (relies : Promises) (u : Variable) (a : ℕ) → o.least ≤ level f.body u
+                → AreTakenUp p f.body relies
+                → IsItsCancel f.body u
+                → (takes relies u.number ≡ true) ⊎ (takes relies u.number ≡ false)
+                → IsSafe grows still c f.waiting f.saved relies u a
+            by_test relies u a deep up its (inl e) = inr (λ h. is_met (met relies u a deep up its e h))
+            by_test relies u a deep up its (inr e) =
+                inl (λ k. changes relies u.number k ∙ ap (λ b. cond b safe k) e)
+
+    -- it runs a literal, which may wait for groups too, so that what was left to their members is taken on
+    module _ {after_o : Origins} {after : Store} (grows : Grows nobody o after_o s after)
+        (still : LeftStill p o s after_o after) {at : ℕ} {rest : Code Event} (d : DoesNext f (go (go_literal at)) rest)
+      where
+        abbrev off : ComesTo f (go (go_literal at)) rest
+        off = d.comes_to
+
+        pub cared_gone_literal : MeetsTaken grows still d (λ relies u. relies.credits at u)
+            → ((group a : ℕ) → IsLeftTo o s group a → IsMet p after_o after a)
+            → IsCared p after_o after Nothing (behind q off) (at_code f rest)
+        cared_gone_literal met left =
+            cared_event grows still off f.waiting f.saved (none_wait grows still off f.waiting f.saved d.none_waits) (λ x h. h)
+            (λ relies u a deep up its h. opens relies u a deep up its h (cases_Bool (relies.credits at u.number)))
+            (λ relies u group a up waits h. lives relies u group a h (cases_Bool (relies.credits at u.number)))
+          where
+            pendings : (relies : Promises) (u : Variable) (a : ℕ) → relies.credits at u.number ≡ false
+                → (k : IsPending relies o s q f u a)
+                → held s f u.number ≡ cancel_function a
+                → (relies.credits at k.left_to.number ≡ true) ⊎ (relies.credits at k.left_to.number ≡ false)
+                → SeenNow grows still off f.waiting f.saved (OpenNow grows still off f.waiting f.saved relies u a) a
+            pendings relies u a e k h (inl waits) = is_met (left k.group a k.is_left)
+            pendings relies u a e k h (inr none) =
+                let class = group_class_of relies k.left_to q.events in
+                let was : CancelClass = pending k.left_to.number in
+                pending_still grows still off f.waiting f.saved relies u a k
+                (ap (λ b. cond b safe (waited_over relies at was)) e ∙ ap (λ b. cond b safe was) none)
+                (subst IsWorking (sym (ap (λ b. cond b (at_rest class) class) none)) k.is_working) h
+
+            opens : (relies : Promises) (u : Variable) (a : ℕ) → o.least ≤ level f.body u
+                → AreTakenUp p f.body relies
+                → IsItsCancel f.body u
+                → IsOpen relies o s q f u a
+                → (relies.credits at u.number ≡ true) ⊎ (relies.credits at u.number ≡ false)
+                → SeenNow grows still off f.waiting f.saved (OpenNow grows still off f.waiting f.saved relies u a) a
+            opens relies u a deep up its (is_held code stage k h) (inl e) = is_met (met relies u a deep up its e h)
+            opens relies u a deep up its (is_kept code stage k declared h keeps) (inl e) =
+                is_met (met relies u a deep up its e h)
+            opens relies u a deep up its (is_pending k h) (inl e) = is_met (met relies u a deep up its e h)
+            opens relies u a deep up its (is_held code stage k h) (inr e) =
+                held_still grows still off f.waiting f.saved relies u a (ap (λ b. cond b safe opened) e) k h
+            opens relies u a deep up its (is_kept code stage k declared h keeps) (inr e) =
+                kept_still grows still off f.waiting f.saved relies u a (ap (λ b. cond b safe kept) e) k declared h keeps
+            opens relies u a deep up its (is_pending k h) (inr e) =
+                pendings relies u a e k h (cases_Bool (relies.credits at k.left_to.number))
+
+            lives : (relies : Promises) (u : Variable) (group a : ℕ) → IsStillLeft relies o s q f u group a
+                → (relies.credits at u.number ≡ true) ⊎ (relies.credits at u.number ≡ false)
+                → SeenNow grows still off f.waiting f.saved (LeftNow grows still off f.waiting f.saved relies u group a) a
+            lives relies u group a h (inl e) = is_met (left group a h.is_left)
+            lives relies u group a h (inr e) =
+                live_still grows still off f.waiting f.saved relies u group a
+                (ap (λ b. cond b (at_rest (in_state live)) (in_state live)) e) h
+
     -- Work is started in a group that the frame holds. What the literal has to call is left to a new member.
     module _ {after_o : Origins} {after : Store} (grows : Grows nobody o after_o s after)
-        (still : LeftStill o s after_o after) {e : Event} {rest : Code Event} (d : DoesNext f e rest)
+        (still : LeftStill p o s after_o after) {e : Event} {rest : Code Event} (d : DoesNext f e rest)
         (group_variable : Variable) (among : Contains (variables_in f.body) group_variable)
         (kind : group_variable.kind ≡ group_kind) (group : ℕ) (holds : held_group s f group_variable.number ≡ Some group)
       where
         abbrev pub LeftToIt : Option ℕ → Type 0
-        LeftToIt literal = (relies : Promises) (u : Variable) (a at : ℕ) → AreTakenUp p f.body relies
+        LeftToIt literal = (relies : Promises) (u : Variable) (a at : ℕ) → o.least ≤ level f.body u
+            → AreTakenUp p f.body relies
             → IsItsCancel f.body u
             → literal ≡ Some at
             → relies.credits at u.number ≡ true
@@ -576,7 +698,8 @@ module _ {p : Program} {o : Origins} {s : Store} {place : Place} {q : Past} {f :
             safely grows still c f.waiting f.saved relies u a (inl same) (works_on changes relies) h
 
         event_done : ((relies : Promises) (u : ℕ) (k : GroupClass) → change_group relies u e k ≡ cond (g == u) (at_work k) k)
-            → ((relies : Promises) (u : Variable) (a : ℕ) → AreTakenUp p f.body relies
+            → ((relies : Promises) (u : Variable) (a : ℕ) → o.least ≤ level f.body u
+            → AreTakenUp p f.body relies
             → IsItsCancel f.body u
             → IsOpen relies o s q f u a
             → Sees relies u a)
@@ -593,28 +716,29 @@ module _ {p : Program} {o : Origins} {s : Store} {place : Place} {q : Past} {f :
             → LeftToIt literal
             → IsCared p after_o after Nothing (behind q d.comes_to) (at_code f rest)
         cared_started None cancels changes lefts =
-            event_done changes (λ relies u a up its h. same_class relies u (λ k. cancels relies u.number k) changes a h)
+            event_done changes (λ relies u a deep up its h. same_class relies u (λ k. cancels relies u.number k) changes a h)
         cared_started (Some at) cancels changes lefts =
-            event_done changes (λ relies u a up its h. by_credit relies u a up its h (cases_Bool (relies.credits at u.number)))
+            event_done changes (λ relies u a deep up its h. by_credit relies u a deep up its h (cases_Bool (relies.credits at u.number)))
           where
             class_left : (relies : Promises) (u : Variable) (k : CancelClass) → relies.credits at u.number ≡ true
                 → change_cancel relies u.number e k ≡ left_to g k
             class_left relies u k credit = cancels relies u.number k ∙ ap (λ x. cond x (left_to g k) k) credit
 
-            by_credit : (relies : Promises) (u : Variable) (a : ℕ) → AreTakenUp p f.body relies
+            by_credit : (relies : Promises) (u : Variable) (a : ℕ) → o.least ≤ level f.body u
+                → AreTakenUp p f.body relies
                 → IsItsCancel f.body u
                 → IsOpen relies o s q f u a
                 → (relies.credits at u.number ≡ true) ⊎ (relies.credits at u.number ≡ false)
                 → Sees relies u a
-            by_credit relies u a up its h (inr no_credit) =
+            by_credit relies u a deep up its h (inr no_credit) =
                 same_class relies u (λ k. cancels relies u.number k ∙ ap (λ x. cond x (left_to g k) k) no_credit) changes a h
-            by_credit relies u a up its (is_held code stage k h) (inl credit) =
+            by_credit relies u a deep up its (is_held code stage k h) (inl credit) =
                 left_now changes relies u a
                 (class_left relies u (class_of relies u q.events) credit ∙ ap (λ x. left_to g x) k) h
-                (lefts relies u a at up its refl credit h) (cases_Bool (is_declared group_variable.role))
-            by_credit relies u a up its (is_kept code stage k declared h keeps) (inl credit) =
+                (lefts relies u a at deep up its refl credit h) (cases_Bool (is_declared group_variable.role))
+            by_credit relies u a deep up its (is_kept code stage k declared h keeps) (inl credit) =
                 kept_still grows still c f.waiting f.saved relies u a (class_left relies u kept credit) k declared h keeps
-            by_credit relies u a up its (is_pending k h) (inl credit) =
+            by_credit relies u a deep up its (is_pending k h) (inl credit) =
                 pending_still grows still c f.waiting f.saved relies u a k
                 (class_left relies u (pending k.left_to.number) credit)
                 (subst IsWorking (sym (changes relies k.left_to.number (group_class_of relies k.left_to q.events)))
@@ -625,4 +749,4 @@ module _ {p : Program} {o : Origins} {s : Store} {place : Place} {q : Past} {f :
         cared_starting literal starts lefts =
             let r = start_changes e g literal starts in
             cared_started r.0 r.2 (λ relies u k. starting_change relies e g literal starts u k)
-            (λ relies u a at up its is credit h. lefts relies u a at up its (r.1 at is) credit h)
+            (λ relies u a at deep up its is credit h. lefts relies u a at deep up its (r.1 at is) credit h)

@@ -14,8 +14,8 @@ use Rattle.meaning_runs.specs.World.{Value, cancel_function, nobody, Place, Stor
 use Rattle.meaning_runs.specs.Steps.{DoesNext, at_code}
 use Rattle.meaning_runs.proofs.CaredBindings.{declared_elsewhere, relied_elsewhere}
 use Rattle.meaning_runs.proofs.CaredEvents.{left_still}
-use Rattle.meaning_runs.proofs.CaredFor.{LetsGo, AreKept, IsOwn, calls_it, IsPending, IsOpen, is_held, is_kept, is_pending, IsStillLeft, IsSeen, was_called, is_saved, is_open, IsCared, relied_there}
-use Rattle.meaning_runs.proofs.CaredGoesOn.{LeftStill, left_or_called, cared_on, still_value, sees_more}
+use Rattle.meaning_runs.proofs.CaredFor.{LetsGo, AreKept, IsOwn, calls_it, IsPending, IsOpen, is_held, is_kept, is_pending, IsStillLeft, IsSeen, is_met, was_called, is_saved, is_open, IsCared, relied_there}
+use Rattle.meaning_runs.proofs.CaredGoesOn.{LeftStill, left_or_met, cared_on, still_value, sees_more}
 use Rattle.meaning_runs.proofs.GroupClasses.{group_next, named_so, named_otherwise}
 use Rattle.meaning_runs.proofs.GroupPaths.{group_class_of, IsWorking}
 use Rattle.meaning_runs.proofs.Holders.{Grows, IsHolder}
@@ -49,7 +49,7 @@ module _ {p : Program} {o : Origins} {s : Store} {place : Place} {q : Past} {f :
         grows : Grows nobody o o s after
         grows = contexts_grow nobody o s after changes
 
-        still : LeftStill o s o after
+        still : LeftStill p o s o after
         still = left_still changes
 
         value_now : (u : ℕ) → held after f u ≡ held s f u
@@ -104,7 +104,7 @@ module _ {p : Program} {o : Origins} {s : Store} {place : Place} {q : Past} {f :
               → held s f u.number ≡ cancel_function a
               → SeenNow relies u a
           pending_now relies u a k h =
-              left_or_called still k.group a (λ l. is_open (is_pending record {
+              left_or_met still k.group a (λ l. is_open (is_pending record {
                 code = rest;
                 stage = refl;
                 left_to = k.left_to;
@@ -116,7 +116,7 @@ module _ {p : Program} {o : Origins} {s : Store} {place : Place} {q : Past} {f :
                     ∙ tells.groups relies k.left_to.number (group_class_of relies k.left_to q.events))) k.is_working;
                 is_held = group_now k.left_to.number ∙ k.is_held;
                 is_left = l;
-              } (value_now u.number ∙ h))) (λ x. was_called x) k.is_left
+              } (value_now u.number ∙ h))) (λ x. is_met x) k.is_left
 
           elsewhere : (relies : Promises) (u : Variable) (a : ℕ) → (v ≡ u.number → ⊥) → IsOpen relies o s q f u a
               → SeenNow relies u a
@@ -139,7 +139,7 @@ module _ {p : Program} {o : Origins} {s : Store} {place : Place} {q : Past} {f :
           live_now : (relies : Promises) (u : Variable) (group a : ℕ) → IsStillLeft relies o s q f u group a
               → IsSeen p o after Nothing gone (IsStillLeft relies o after (behind q d.comes_to) gone u group a) a
           live_now relies u group a h =
-              left_or_called still group a (λ l. is_open record {
+              left_or_met still group a (λ l. is_open record {
                 is_live = record {
                   code = rest;
                   stage = refl;
@@ -148,20 +148,21 @@ module _ {p : Program} {o : Origins} {s : Store} {place : Place} {q : Past} {f :
                   is_held = group_now u.number ∙ h.is_live.is_held;
                 };
                 is_left = l;
-              }) (λ x. was_called x) h.is_left
+              }) (λ x. is_met x) h.is_left
 
           pub cared_telling : is_declared_in f.body v ≡ true → IsCared p o after Nothing (behind q d.comes_to) gone
           cared_telling declared = cared_on record {
             same_body = refl;
+            same_least = refl;
             sees = sees_more grows still gone refl tells.more_saved (λ group h. h) (λ a bad. absurd bad)
                 (λ passing x a w. absurd (none-some passing (sym d.none_waits ∙ w)));
             hands = λ a h. elim h [
               | inl x ↦ absurd (exits≢runs d.comes_to.goes_on.code (sym x.0 ∙ d.comes_to.goes_on.stage))
               | inr x ↦ inr (tells.more_given (cancel_function a) x)
             ];
-            obtained = λ relies a none h. inl h;
-            own = λ relies u a none own h. own_now relies u a own h (cases_eq v u.number);
-            duty = λ relies u a under h.
+            obtained = λ relies a top none h. inl h;
+            own = λ relies u a top none own h. own_now relies u a own h (cases_eq v u.number);
+            duty = λ relies u a deep under h.
                 elsewhere relies u a
                 (declared_elsewhere f.body v declared u (relied_there p f.body u under.is_relied).0
                 (relied_elsewhere p f.body u under.is_relied)) h;
@@ -232,8 +233,8 @@ module _ {p : Program} {o : Origins} {s : Store} {place : Place} {q : Past} {f :
           opens = λ relies u a own same k h.
               inr (held_now changes d v f.saved f.kept f.given_away relies u a opened k (either _ opened) h);
           keeps = λ relies u a own same k h keeps.
-              inr (was_called (called_now s value a (ap (λ w. kept_value f.kept w x) same
-              ∙ keeps x (subst (λ w. IsItsObject f.body.file w x) same there.is_its_object))));
+              inr (is_met (was_called (called_now s value a (ap (λ w. kept_value f.kept w x) same
+              ∙ keeps x (subst (λ w. IsItsObject f.body.file w x) same there.is_its_object)))));
         } there.is_declared_here
       where
         value : Value

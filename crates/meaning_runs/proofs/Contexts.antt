@@ -6,7 +6,7 @@ use Rattle.meaning.specs.Tracked.{GroupState}
 use Rattle.meaning.specs.Uses.{Callee}
 use Rattle.meaning_runs.specs.Bodies.{Program}
 use Rattle.meaning_runs.specs.World.{Value, nothing, cancel_function, Place, Store, put_at, ComesFrom, itself, made_from, IsDone, with_new, calling, ending, waiting_for, Frame, World, Passing}
-use Rattle.meaning_runs.specs.Steps.{Obtains, new_one, earlier_one, none_at_all, Makes, zero_group, with_context, Begins, of_function, of_none, Acts, moves_on, does_other, obtains_one, clears_one, calls_one, saves_call, makes_group, tries_nothing, ends_wait, saves_wait, evaluates, evaluates_deferred, lends, makes_call, calls_outside, saves_pass, saves_literal, comes_to_return, runs_call, runs_pass, runs_literal, runs_wait, returns_now, ChangesMembers, starts_member, starts_stranger, starts_outside, starts_beside, leaves_group, Surrounds, starts, evaluates_literal, starts_literal, makes_cells, makes_one, ends_one, calls_any, makes_outside, joins_outside, Step, of_goroutine, of_members, of_environment, obtains_into, keeps_one, renews_object, calls_kept, saves_kept, gives_object, gives_in_field}
+use Rattle.meaning_runs.specs.Steps.{StartsGoroutine, starts_call, starts_function, starts_foreign, starts_its_literal, of_go, Obtains, new_one, earlier_one, none_at_all, Makes, zero_group, with_context, Begins, of_function, of_none, Acts, moves_on, does_other, obtains_one, clears_one, calls_one, saves_call, makes_group, tries_nothing, ends_wait, saves_wait, evaluates, evaluates_deferred, lends, makes_call, calls_outside, saves_pass, saves_literal, comes_to_return, runs_call, runs_pass, runs_literal, runs_wait, returns_now, ChangesMembers, starts_member, starts_stranger, starts_outside, starts_beside, leaves_group, Surrounds, starts, evaluates_literal, starts_literal, makes_cells, makes_one, ends_one, calls_any, makes_outside, joins_outside, Step, of_goroutine, of_members, of_environment, obtains_into, keeps_one, renews_object, calls_kept, saves_kept, gives_object, gives_in_field}
 use Rattle.meaning_runs.specs.Runs.{Run, no_step, step_more}
 use Rattle.meaning_runs.specs.Laws.{ContextsAreSound}
 
@@ -161,9 +161,18 @@ changing_follows p w next (starts_outside g k at c lent is free) h = same_contex
 changing_follows p w next (starts_beside g k member none free) h = same_contexts w.store _ h refl refl refl refl
 changing_follows p w next (leaves_group g member none) h = same_contexts w.store _ h refl refl refl refl
 
+going_follows : (p : Program) (w next : World) → StartsGoroutine p w next → IsSound w.store → Follows w.store next.store
+going_follows p w next (starts_call g sets) h = same_contexts w.store w.store h refl refl refl refl
+going_follows p w next (starts_function g k b values groups sets free is fits) h =
+    same_contexts w.store _ h refl refl refl refl
+going_follows p w next (starts_foreign g sets none) h = same_contexts w.store w.store h refl refl refl refl
+going_follows p w next (starts_its_literal g k b values groups sets free is_in is_at foreign) h =
+    same_contexts w.store _ h refl refl refl refl
+
 pub step_follows : (p : Program) (w next : World) → Step p w next → IsSound w.store → Follows w.store next.store
 step_follows p w next (of_goroutine {f = f} {others = others} {after = after} {frames = frames} g at a) h = acting_follows p w.store (g, length others) f after frames a h
 step_follows p w next (of_members c) h = changing_follows p w next c h
+step_follows p w next (of_go s) h = going_follows p w next s h
 step_follows p w next (of_environment s) h = surrounding_follows p w next s h
 
 pub run_is_sound : (p : Program) (w : World) → Run p w → IsSound w.store

@@ -1,14 +1,14 @@
 -- Each running frame goes on.
-use Rattle.std.proofs.Common.{◌≡◌, ℕ, Bool, true, false, List, [], ◌∷◌, ◌++◌, length, None, refl, sym, subst}
+use Rattle.std.proofs.Common.{◌≡◌, ℕ, Bool, true, false, List, [], ◌∷◌, ◌++◌, length, None, refl, sym, ◌∙◌, subst}
 use Rattle.meaning.specs.Code.{Code}
 use Rattle.meaning.specs.Tracked.{idle, live}
-use Rattle.meaning.specs.Uses.{Callee, Event, other, obtain, clear, call, defer_call, pass, defer_pass, lend, start, try, wait, defer_wait, make, defer_literal, return_event, obtain_kept, renew, keep, call_kept, defer_kept, give, give_field}
+use Rattle.meaning.specs.Uses.{Callee, Event, other, obtain, clear, call, defer_call, pass, defer_pass, lend, start, try, wait, defer_wait, make, defer_literal, go_call, go_pass, go_literal, go, return_event, obtain_kept, renew, keep, call_kept, defer_kept, give, give_field}
 use Rattle.meaning_runs.specs.Bodies.{Program}
-use Rattle.meaning_runs.specs.World.{nothing, Store, Stage, runs, Frame, World}
-use Rattle.meaning_runs.specs.Steps.{DoesNext, new_one, zero_group, with_context, MayJoin, is_first, Acts, moves_on, does_other, obtains_one, clears_one, calls_one, saves_call, makes_group, tries_nothing, ends_wait, saves_wait, evaluates, evaluates_deferred, lends, saves_literal, comes_to_return, runs_call, runs_literal, runs_wait, returns_now, by_start, of_goroutine, obtains_into, keeps_one, renews_object, calls_kept, saves_kept, gives_object, gives_in_field}
+use Rattle.meaning_runs.specs.World.{nothing, put_at, new_frame, Store, Stage, runs, Frame, World}
+use Rattle.meaning_runs.specs.Steps.{at_code, starts_call, starts_its_literal, of_go, DoesNext, new_one, zero_group, with_context, MayJoin, is_first, Acts, moves_on, does_other, obtains_one, clears_one, calls_one, saves_call, makes_group, tries_nothing, ends_wait, saves_wait, evaluates, evaluates_deferred, lends, saves_literal, comes_to_return, runs_call, runs_literal, runs_wait, returns_now, by_start, of_goroutine, obtains_into, keeps_one, renews_object, calls_kept, saves_kept, gives_object, gives_in_field}
 use Rattle.meaning_runs.specs.Laws.{GoesTo, StandsAt, stage_behind, IsReady, FramesGoOn, FramesHaveSteps}
-use Rattle.meaning_runs.proofs.Contexts.{put_at-same}
-use Rattle.meaning_runs.proofs.FreeGoroutines.{none_given, starts_one}
+use Rattle.meaning_runs.proofs.Contexts.{put_at-same, put_at-other}
+use Rattle.meaning_runs.proofs.FreeGoroutines.{none_given, apart, starts_one}
 
 module _ (p : Program) (w : World) (g : ℕ) (f : Frame) (others : List Frame) (at : w.stacks g ≡ f ∷ others) where
   -- what it does, its goroutine's frames are then
@@ -57,6 +57,32 @@ module _ (p : Program) (w : World) (g : ℕ) (f : Frame) (others : List Frame) (
   by_its_event (make u idle) rest d h = stands _ _ _ (makes_group d zero_group) refl refl
   by_its_event (make u live) rest d h = stands _ _ _ (makes_group d (with_context None tt)) refl refl
   by_its_event (defer_literal offset) rest d h = stands _ _ _ (saves_literal h.0 d h.1 h.2) refl refl
+  by_its_event (go (go_call v)) rest d h = (
+    _,
+    of_go (starts_call g record { is_running = at; does_next = d }),
+    record {
+      frame = at_code f rest;
+      is_running = put_at-same w.stacks g (at_code f rest ∷ others);
+      same_body = refl;
+      is_at = refl;
+    },
+  )
+  by_its_event (go (go_pass callee xs)) rest d h = absurd h
+  by_its_event (go (go_literal offset)) rest d h =
+      let stacks = put_at w.stacks g (at_code f rest ∷ others) in
+      let stack = new_frame w.store h.0.0 f.newest ∷ [] in (
+        _,
+        of_go (starts_its_literal g h.1.0 h.0.0 (λ v. nothing) (λ v. None) record { is_running = at; does_next = d } h.1.1
+            h.0.1 h.0.2 (none_given w.store)),
+        record {
+          frame = at_code f rest;
+          is_running =
+              put_at-other stacks h.1.0 stack g (λ q. apart w g h.1.0 f others at h.1.1 (sym q))
+              ∙ put_at-same w.stacks g (at_code f rest ∷ others);
+          same_body = refl;
+          is_at = refl;
+        },
+      )
   by_its_event (return_event handed) rest d h = stands _ _ _ (comes_to_return d) refl refl
 
   frame_goes_on : FramesGoOn p w g f others

@@ -6,19 +6,19 @@ use Rattle.std.proofs.lemmas.List.Elements.{filter-append}
 use Rattle.tree.specs.declared.edition.Edition.{Edition}
 use Rattle.tree.specs.declared.edition.Edition.TheVariants.{First, Second}
 use Rattle.tree.specs.Syntax.{SourceFile}
-use Rattle.meaning.specs.Mentions.{BodyPlace, Mark, mentions, defers_literal, returns, opens, closes, in_body, is_found, marks_by, file_marks, mention, called, of_fields, is_of_fields}
+use Rattle.meaning.specs.Mentions.{BodyPlace, Mark, mentions, runs_literal, returns, opens, closes, in_body, is_found, marks_by, file_marks, mention, called, of_fields, is_of_fields}
 use Rattle.meaning.specs.Tracked.{Placed, placed, outer}
 use Rattle.meaning.specs.BodyEvents.{opened_in}
 use Rattle.meaning.proofs.Membership.{contains_nil, contains_here, contains_there, contains_cases}
 use Rattle.meaning_runs.proofs.FieldMarks.{FieldsOnly, no_more, and_one, Any}
 use Rattle.meaning_runs.proofs.SitesWithin.{ReturnsEnd}
-use Rattle.meaning_runs.proofs.MarkForms.{AreMade, no_mark, both_parts, a_mention, a_field, a_call, a_call_with, a_return, a_body, a_deferred_body, of_file}
+use Rattle.meaning_runs.proofs.MarkForms.{AreMade, no_mark, both_parts, a_mention, a_field, a_call, a_call_with, a_return, a_body, a_run_body, of_file}
 
 -- `without_found`: what conditions find out is left out too
 abbrev stays : Bool → Mark → Bool
 stays without_found (mentions m) = not (is_found (mentions m) && without_found)
 stays without_found (of_fields site m) = false
-stays without_found (defers_literal site at) = true
+stays without_found (runs_literal moment site at) = true
 stays without_found (returns at es) = true
 stays without_found (opens b) = true
 stays without_found closes = true
@@ -33,7 +33,7 @@ first_mention false = refl
 first_stays : (m : Mark) → not (is_found m || is_of_fields m) ≡ stays true m
 first_stays (mentions m) = first_mention (is_found (mentions m))
 first_stays (of_fields site m) = refl
-first_stays (defers_literal site at) = refl
+first_stays (runs_literal moment site at) = refl
 first_stays (returns at es) = refl
 first_stays (opens b) = refl
 first_stays closes = refl
@@ -45,7 +45,7 @@ second_mention false = refl
 second_stays : (m : Mark) → not (is_of_fields m) ≡ stays false m
 second_stays (mentions m) = second_mention (is_found (mentions m))
 second_stays (of_fields site m) = refl
-second_stays (defers_literal site at) = refl
+second_stays (runs_literal moment site at) = refl
 second_stays (returns at es) = refl
 second_stays (opens b) = refl
 second_stays closes = refl
@@ -95,7 +95,7 @@ kept_placed w bodies (mentions m ∷ ms) p h = by (stays w (mentions m)) h (kept
     by true k rest = one_more true _ (placed bodies (kept w ms)) (placed bodies ms) p rest k
     by false k rest = contains_there _ p (placed bodies ms) (rest k)
 kept_placed w bodies (of_fields site m ∷ ms) p h = contains_there _ p (placed bodies ms) (kept_placed w bodies ms p h)
-kept_placed w bodies (defers_literal site at ∷ ms) p h =
+kept_placed w bodies (runs_literal moment site at ∷ ms) p h =
     one_more true _ (placed bodies (kept w ms)) (placed bodies ms) p (kept_placed w bodies ms p) h
 kept_placed w bodies (returns at es ∷ ms) p h =
     one_more true _ (placed bodies (kept w ms)) (placed bodies ms) p (kept_placed w bodies ms p) h
@@ -122,7 +122,7 @@ kept_opened w bodies (mentions m ∷ ms) = by (stays w (mentions m)) (kept_opene
     by true rest = rest
     by false rest = rest
 kept_opened w bodies (of_fields site m ∷ ms) = kept_opened w bodies ms
-kept_opened w bodies (defers_literal site at ∷ ms) = kept_opened w bodies ms
+kept_opened w bodies (runs_literal moment site at ∷ ms) = kept_opened w bodies ms
 kept_opened w bodies (returns at es ∷ ms) = kept_opened w bodies ms
 kept_opened w bodies (opens b ∷ ms) = ap (λ (bs : List BodyPlace). b ∷ bs) (kept_opened w (b ∷ bodies) ms)
 kept_opened w bodies (closes ∷ ms) = kept_opened w (outer bodies) ms
@@ -178,11 +178,11 @@ kept_made w {i = i} (a_call_with {ms = ms} {fs = fs} site c b is used name place
 kept_made w (a_return at es) = a_return at es
 kept_made w {i = i} (a_body {ms = ms} b not_started not_deferred h) =
     subst (AreMade i) (sym (kept_body w b ms)) (a_body b not_started not_deferred (kept_made w h))
-kept_made w (a_deferred_body {ms = ms} b site is h) =
+kept_made w (a_run_body {ms = ms} moment b site is h) =
     subst (AreMade true)
-    (sym (filter-append (stays w) (in_body b ms) (defers_literal site b.at ∷ [])
-    ∙ ap (λ (ns : List Mark). ns ++ defers_literal site b.at ∷ []) (kept_body w b ms)))
-    (a_deferred_body b site is (kept_made w h))
+    (sym (filter-append (stays w) (in_body b ms) (runs_literal moment site b.at ∷ [])
+    ∙ ap (λ (ns : List Mark). ns ++ runs_literal moment site b.at ∷ []) (kept_body w b ms)))
+    (a_run_body moment b site is (kept_made w h))
 
 pub file_made : (edition : Edition) (some_keep : Bool) (file : SourceFile)
     → AreMade false (marks_by edition some_keep (file_marks file))

@@ -8,7 +8,7 @@ use Rattle.std.proofs.lemmas.List.Elements.{Contains-append_cases, Contains-appe
 use Rattle.tree.specs.Syntax.{SourceFile}
 use Rattle.meaning.specs.Code.{Occurrence, Code, repeats}
 use Rattle.meaning.specs.Lists.{Exit, stopped, Lists, Reaches, not_begun, skipped, done, just_done, left, ends_in_first, goes_on, in_first, in_second, ends_in_turn, turns_again, arrives, passes}
-use Rattle.meaning.specs.Mentions.{BodyPlace, Mention, Mark, mentions, defers_literal, returns, opens, closes, file_marks, marks_by, of_fields}
+use Rattle.meaning.specs.Mentions.{BodyPlace, Mention, Mark, mentions, runs_literal, returns, opens, closes, file_marks, marks_by, of_fields}
 use Rattle.meaning.specs.Tracked.{Known, placed, some_keep}
 use Rattle.meaning.specs.Uses.{Callee, Event, Seen}
 use Rattle.meaning.specs.BodyEvents.{opened_in, bodies_of, sites_of, seen_file}
@@ -90,7 +90,7 @@ module _ (text : List ℕ) (tree : SourceFile) (known : Known) (is : IsTreeButFo
   mark_in : (mark : Mark) → Contains (file_marks tree) mark → MarkStandsWithin (length text) mark
   mark_in (mentions m) among = (site_in m among, names_lie_in_texts known.edition text tree (mentions m) is among)
   mark_in (of_fields site m) among = names_lie_in_texts known.edition text tree (of_fields site m) is among
-  mark_in (defers_literal site at) among = tt
+  mark_in (runs_literal moment site at) among = tt
   mark_in (returns at es) among = tt
   mark_in (opens b) among = (
     names_lie_in_texts known.edition text tree (opens b) is among,

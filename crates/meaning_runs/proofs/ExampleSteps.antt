@@ -93,7 +93,7 @@ twice {A = A} f g x y = λ i m. by (m == g) (f m) i
     by false z = refl
 
 pub same_stack : (w : World) (s t : Store) (g : ℕ) (x y : List Frame) → with_stack (with_stack w s g x) t g y ≡ with_stack w t g y
-same_stack w s t g x y = λ i. record { store = t; stacks = twice w.stacks g x y i; escaped = w.escaped }
+same_stack w s t g x y = λ i. record { store = t; stacks = twice w.stacks g x y i; escaped = w.escaped; to_call = w.to_call }
 
 -- a stack that is put where it is
 put_itself : {A : Type 0} (f : ℕ → A) (g : ℕ) (x : A) → f g ≡ x → put_at f g x ≡ f
@@ -104,7 +104,7 @@ put_itself {A = A} f g x e = λ i m. by m (cases_eq m g) i
     by m (inr ne) = put_at-other f g x m ne
 
 itself : (w : World) (g : ℕ) (stack : List Frame) → w.stacks g ≡ stack → with_stack w w.store g stack ≡ w
-itself w g stack e = λ i. record { store = w.store; stacks = put_itself w.stacks g stack e i; escaped = w.escaped }
+itself w g stack e = λ i. record { store = w.store; stacks = put_itself w.stacks g stack e i; escaped = w.escaped; to_call = w.to_call }
 
 module _ (p : Program) where
   -- a goroutine acts

@@ -9,9 +9,9 @@ use Rattle.meaning.specs.Scopes.{is_blank}
 use Rattle.meaning.specs.Code.{Occurrence}
 use Rattle.meaning.specs.Lists.{Reaches, stopped}
 use Rattle.meaning.specs.FunctionFacts.{VariableKind, TrackedType, kind_of_type, Item, alone, items_of, item_type, CancelType, cancel_type, is_same_type}
-use Rattle.meaning.specs.Mentions.{BodyPlace, Mention, Mark, mentions, defers_literal, returns, opens, closes, of_fields, FieldMark, calls_field, writes_field, hands_over, hands_literal, renews, imports_all, Row}
+use Rattle.meaning.specs.Mentions.{BodyPlace, Mention, Mark, mentions, runs_literal, returns, opens, closes, of_fields, FieldMark, calls_field, writes_field, hands_over, hands_literal, renews, imports_all, Row}
 use Rattle.meaning.specs.Tracked.{Known, Placed, LocalRole, parameter, receiver, result, Local, item_local, parameter_role, parameter_locals, receiver_locals, only_cancel, result_locals, receiver_items, signature_locals, body_locals, declared_by, declared_local, locals_there, locals_of, has_field, in_block, row_giving}
-use Rattle.meaning.specs.Uses.{Seen, VariableAt, Event, defer_literal, return_event, found, tracked_kind, is_outside, is_body, too_many_variables, goto_used, bound_again, fault_at, is_result, is_cancel, result_faults, cancel_type_of, cancel_used_otherwise, field_faults, field_left_faults, field_variable, row_binds, type_from}
+use Rattle.meaning.specs.Uses.{Seen, VariableAt, Event, return_event, found, tracked_kind, is_outside, is_body, too_many_variables, goto_used, bound_again, fault_at, is_result, is_cancel, result_faults, cancel_type_of, cancel_used_otherwise, field_faults, field_left_faults, field_variable, row_binds, type_from}
 use Rattle.meaning.specs.Jumps.{jumps_in}
 use Rattle.meaning.specs.BodyEvents.{has_variables, forbids_recover, mark_faults, outer_faults_of, faults_of, handed_on, mark_events, events_at, sites_of, occurs_in, is_variable_of, lesser, occurrence, least, first_occurrence, VariableRole, own_parameter, own_receiver, declared_in_body, captured, Variable, role_in, first_in, variable_there, variable_found, variables_of, distinct, fault_after, is_cancel_variable, too_many_faults, body_faults, outer_faults}
 use Rattle.meaning.specs.Classes.{Promises}
@@ -27,12 +27,13 @@ use Rattle.meaning_runs.proofs.MentionEvents.{mention_events_fit}
 use Rattle.meaning_runs.proofs.KeptEvents.{IsOfObject, field_events_are, in_if, by_renew, by_call, by_deferred, by_give, by_keep, by_outer, by_obtaining, by_gift}
 use Rattle.meaning_runs.proofs.Places.{eqb_is}
 use Rattle.meaning_reports.proofs.ImportsOf.{given_by, only_one}
+use Rattle.meaning_runs.proofs.SentEvents.{literal_event_fits}
 
 -- what the mark names stands there, and so does the site of a mention
 abbrev pub MarkStandsWithin : ℕ → Mark → Type 0
 MarkStandsWithin n (mentions m) = (m.site ≤ n) × StandsWithin n (mentions m)
 MarkStandsWithin n (of_fields site m) = StandsWithin n (of_fields site m)
-MarkStandsWithin n (defers_literal site at) = Unit {0}
+MarkStandsWithin n (runs_literal moment site at) = Unit {0}
 MarkStandsWithin n (returns at es) = Unit {0}
 MarkStandsWithin n (opens b) = StandsWithin n (opens b) × ((at : ℕ) → Contains (jumps_in b.statements) at → at ≤ n)
 MarkStandsWithin n closes = Unit {0}
@@ -129,7 +130,7 @@ module _ (n : ℕ) where
       → LocalsStandWithin n (locals_there known bodies mark)
   there_lie known bodies (mentions m) h = declared_lies known m h.1.0 bodies (declared_by known m)
   there_lie known bodies (of_fields site m) h = no_local
-  there_lie known bodies (defers_literal site at) h = no_local
+  there_lie known bodies (runs_literal moment site at) h = no_local
   there_lie known bodies (returns at es) h = no_local
   there_lie known bodies (opens b) h = body_locals_lie known b h.0
   there_lie known bodies closes h = no_local
@@ -170,7 +171,7 @@ module _ (n : ℕ) (known : Known) where
   row_lies marks bodies (of_fields site (renews number)) low r h = absurd (contains_nil r h)
   row_lies marks bodies (of_fields site imports_all) low r h = absurd (contains_nil r h)
   row_lies marks bodies (mentions m) low r h = absurd (contains_nil r h)
-  row_lies marks bodies (defers_literal site at) low r h = absurd (contains_nil r h)
+  row_lies marks bodies (runs_literal moment site at) low r h = absurd (contains_nil r h)
   row_lies marks bodies (returns at es) low r h = absurd (contains_nil r h)
   row_lies marks bodies (opens b) low r h = absurd (contains_nil r h)
   row_lies marks bodies closes low r h = absurd (contains_nil r h)
@@ -273,7 +274,7 @@ module _ (n : ℕ) (seen : Seen) (lies : FileStandsWithin n seen) where
       both_faults (mention_faults_lie n seen bodies m h.1.0 h.0 h.1.1)
       (faults_if (forbids_recover seen.known.edition seen bodies) (recover_faults_lie n seen bodies m h.1.0) no_fault)
   mark_lies bodies (of_fields site m) h = field_faults_lie m h
-  mark_lies bodies (defers_literal site at) h = no_fault
+  mark_lies bodies (runs_literal moment site at) h = no_fault
   mark_lies bodies (returns at es) h = no_fault
   mark_lies bodies (opens b) h =
       both_faults (results_faults_lie (body_locals seen.known b) (body_locals_lie n seen.known b h.0))
@@ -310,7 +311,7 @@ module _ (n : ℕ) (seen : Seen) (lies : FileStandsWithin n seen) where
       → occurrence mark ≤ n
   occurs_low body l bodies (mentions m) h e = h.1.0
   occurs_low body l bodies (of_fields site m) h e = absurd (true≢false (sym e))
-  occurs_low body l bodies (defers_literal site at) h e = absurd (true≢false (sym e))
+  occurs_low body l bodies (runs_literal moment site at) h e = absurd (true≢false (sym e))
   occurs_low body l bodies (returns at es) h e = absurd (true≢false (sym e))
   occurs_low body l bodies (opens b) h e = absurd (true≢false (sym e))
   occurs_low body l bodies closes h e = absurd (true≢false (sym e))
@@ -407,12 +408,15 @@ module _ (n : ℕ) (seen : Seen) (lies : FileStandsWithin n seen) where
   given_lies : (bodies : List BodyPlace) (mark : Mark) → MarkStandsWithin n mark → EventsStandWithin n (mark_events seen bodies mark)
   given_lies bodies (mentions m) h = record {
     each = mention_events_fit (EventStandsWithin n) seen bodies m (λ v. tt)
-        (λ e is. object_lies bodies (mentions m) h e is) (variable_lies n seen bodies m h.1.0).events.each;
+        (λ e is. object_lies bodies (mentions m) h e is)
+        (λ e is. subst (EventStandsWithin n) (sym is.is_event) tt) (variable_lies n seen bodies m h.1.0).events.each;
   }
   given_lies bodies (of_fields site m) h = record {
     each = λ e among. object_lies bodies (of_fields site m) h e (field_events_are seen bodies site m e among);
   }
-  given_lies bodies (defers_literal site at) h = one_event (defer_literal at) tt
+  given_lies bodies (runs_literal moment site at) h = record {
+    each = literal_event_fits (EventStandsWithin n) seen.known.edition moment at tt tt;
+  }
   given_lies bodies (returns at es) h = one_event (return_event (handed_on seen bodies 0 es)) tt
   given_lies bodies (opens b) h = no_event
   given_lies bodies closes h = no_event

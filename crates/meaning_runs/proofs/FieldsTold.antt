@@ -4,9 +4,9 @@ use Rattle.std.specs.Prelude.{◌&&◌, if◌then◌else◌}
 use Rattle.std.specs.List.{filter}
 use Rattle.std.proofs.lemmas.Bool.{and_from, true≢false, false≢true}
 use Rattle.std.proofs.lemmas.List.Elements.{Contains-append_left, Contains-append_right}
-use Rattle.meaning.specs.Mentions.{BodyPlace, writes_field, Mark, mentions, of_fields, defers_literal, returns, opens, closes}
+use Rattle.meaning.specs.Mentions.{BodyPlace, writes_field, Mark, mentions, of_fields, runs_literal, returns, opens, closes}
 use Rattle.meaning.specs.Tracked.{Placed}
-use Rattle.meaning.specs.Uses.{Seen, Event, call, defer_literal, return_event}
+use Rattle.meaning.specs.Uses.{Seen, Work, Event, call, go, return_event, go_call}
 use Rattle.meaning.specs.Kept.{Keep, keeps_there, belongs}
 use Rattle.meaning.specs.KeepingFields.{is_obtained_in, field_of_obtained, carried_field, kept_variables, carried_fields, obtained_fields, given_elements, fields_kept_there, fields_kept}
 use Rattle.meaning.specs.BodyEvents.{handed_on, mark_events}
@@ -17,6 +17,7 @@ use Rattle.meaning_runs.specs.EventSources.{HasSource, says_nothing, falls_off, 
 use Rattle.meaning_runs.specs.ToldFields.{PutsObtained, obtains_into, keeps, gives, FieldsAreTold}
 use Rattle.meaning_runs.proofs.EventSources.{events_have_sources}
 use Rattle.meaning_runs.proofs.KeptEvents.{IsOfObject, by_renew, by_call, by_deferred, by_give, by_keep, by_outer, by_obtaining, by_gift, field_events_are}
+use Rattle.meaning_runs.proofs.SentEvents.{literal_event_fits}
 use Rattle.meaning_runs.proofs.MentionEvents.{is_told_of_mention, mention_events_fit, variable_fits}
 
 filter_has : {X : Type 0} (p : X → Bool) (xs : List X) (x : X) → Contains xs x → p x ≡ true → Contains (filter p xs) x
@@ -81,18 +82,26 @@ module _ (seen : Seen) (bodies : List BodyPlace) where
   puts_nothing e told (keeps obtained) = false≢true told
   puts_nothing e told (gives obtained) = false≢true told
 
+  -- nor does a `go` statement
+  sends_nothing : {work : Work} (e : Event) → e ≡ go work → PutsObtained seen e → ⊥
+  sends_nothing e is obtains_into = cc
+  sends_nothing e is (keeps obtained) = cc
+  sends_nothing e is (gives obtained) = cc
+
   mark_told : (mark : Mark) (e : Event) → Contains (mark_events seen bodies mark) e → PutsObtained seen e → IsTold mark
   mark_told (mentions m) e h puts =
       mention_events_fit (λ x. PutsObtained seen x → IsTold (mentions m)) seen bodies m
       (λ v p. absurd (puts_nothing (call v) refl p))
       (told_there (mentions m))
+      (λ x is p. absurd (sends_nothing x is.is_event p))
       (variable_fits (λ x. PutsObtained seen x → IsTold (mentions m)) seen bodies m
-      (λ l found x told passed p. absurd (puts_nothing x told p)))
+      (λ second v p. absurd (sends_nothing (go (go_call v)) refl p)) (λ l found x told passed p. absurd (puts_nothing x told p)))
       e h puts
   mark_told (of_fields site m) e h puts =
       told_there (of_fields site m) e (field_events_are seen bodies site m e h) puts
-  mark_told (defers_literal site at) e h puts =
-      absurd (subst (λ x. PutsObtained seen x → ⊥) (only_one (defer_literal at) e h) (λ p. elim p [ ]) puts)
+  mark_told (runs_literal moment site at) e h puts =
+      absurd (literal_event_fits (λ x. PutsObtained seen x → ⊥) seen.known.edition moment at (λ p. elim p [ ])
+      (λ p. elim p [ ]) e h puts)
   mark_told (returns at es) e h puts =
       absurd (subst (λ x. PutsObtained seen x → ⊥) (only_one (return_event (handed_on seen bodies 0 es)) e h)
       (λ p. elim p [ ]) puts)

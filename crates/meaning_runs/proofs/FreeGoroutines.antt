@@ -6,7 +6,7 @@ use Rattle.meaning.specs.Uses.{Callee, Event}
 use Rattle.meaning.proofs.Membership.{contains_here}
 use Rattle.meaning_runs.specs.Bodies.{Program}
 use Rattle.meaning_runs.specs.World.{put_at, itself, held_group, new_frame, nothing_around, Value, nothing, cancel_function, any_nothing, outside_none, AreForeign, Place, Store, calling, ending, waiting_for, with_member, Frame, World, with_stack}
-use Rattle.meaning_runs.specs.Steps.{DoesNext, at_code, Starts, Obtains, new_one, earlier_one, none_at_all, Makes, zero_group, with_context, of_function, of_none, Acts, moves_on, does_other, obtains_one, clears_one, calls_one, saves_call, makes_group, tries_nothing, ends_wait, saves_wait, evaluates, evaluates_deferred, lends, makes_call, calls_outside, saves_pass, saves_literal, comes_to_return, runs_call, runs_pass, runs_literal, runs_wait, returns_now, IsFree, ChangesMembers, starts_member, starts_stranger, starts_outside, starts_beside, leaves_group, Surrounds, starts, evaluates_literal, starts_literal, makes_cells, makes_one, ends_one, calls_any, makes_outside, joins_outside, of_goroutine, of_members, of_environment, obtains_into, keeps_one, renews_object, calls_kept, saves_kept, gives_object, gives_in_field}
+use Rattle.meaning_runs.specs.Steps.{StartsGoroutine, starts_call, starts_function, starts_foreign, starts_its_literal, of_go, DoesNext, at_code, Starts, Obtains, new_one, earlier_one, none_at_all, Makes, zero_group, with_context, of_function, of_none, Acts, moves_on, does_other, obtains_one, clears_one, calls_one, saves_call, makes_group, tries_nothing, ends_wait, saves_wait, evaluates, evaluates_deferred, lends, makes_call, calls_outside, saves_pass, saves_literal, comes_to_return, runs_call, runs_pass, runs_literal, runs_wait, returns_now, IsFree, ChangesMembers, starts_member, starts_stranger, starts_outside, starts_beside, leaves_group, Surrounds, starts, evaluates_literal, starts_literal, makes_cells, makes_one, ends_one, calls_any, makes_outside, joins_outside, of_goroutine, of_members, of_environment, obtains_into, keeps_one, renews_object, calls_kept, saves_kept, gives_object, gives_in_field}
 use Rattle.meaning_runs.specs.Runs.{Run, no_step, step_more}
 use Rattle.meaning_runs.specs.Laws.{HasFreeGoroutine, IsThere, Joins, RunsLiteral, GoroutinesAreFree, GroupsGetMembers, MembersMayLeave, TheEnvironmentMay}
 use Rattle.meaning_runs.proofs.Contexts.{put_at-same, put_at-other}
@@ -100,6 +100,12 @@ stored n w after members h = record {
   };
 }
 
+-- what is to be called says nothing of it
+with_calls : {w : World} (n : ℕ) (calls : List ℕ) → AreFreeFrom n w → AreFreeFrom n (record w { to_call = calls })
+with_calls n calls h = record {
+  each = λ k l. record { has_no_frame = (h.each k l).has_no_frame; is_no_member = (h.each k l).is_no_member };
+}
+
 abbrev SomeAreFree : World → Type 0
 SomeAreFree w = (n : ℕ) × AreFreeFrom n w
 
@@ -113,6 +119,14 @@ by_members p w next (starts_stranger {group = group} g k d free) h =
 by_members p w next (starts_outside {group = group} g k at c lent is free) h = (_, joined h.0 w k (Some group) h.1)
 by_members p w next (starts_beside {group = group} g k member none free) h = (_, joined h.0 w k (Some group) h.1)
 by_members p w next (leaves_group g member none) h = (_, joined h.0 w g None h.1)
+
+by_go : (p : Program) (w next : World) → StartsGoroutine p w next → SomeAreFree w → SomeAreFree next
+by_go p w next (starts_call g sets) h = let on = stacked h.0 w w.store g _ refl h.1 in (_, with_calls _ _ on)
+by_go p w next (starts_function g k b values groups sets free is fits) h =
+    let on = stacked h.0 w w.store g _ refl h.1 in (_, stacked _ _ _ k _ refl on)
+by_go p w next (starts_foreign g sets none) h = let on = stacked h.0 w w.store g _ refl h.1 in (_, with_calls _ _ on)
+by_go p w next (starts_its_literal g k b values groups sets free is_in is_at foreign) h =
+    let on = stacked h.0 w w.store g _ refl h.1 in (_, stacked _ _ _ k _ refl on)
 
 by_environment : (p : Program) (w next : World) → Surrounds p w next → SomeAreFree w → SomeAreFree next
 by_environment p w next (starts g b values groups free of d foreign) h = (_, stacked h.0 w _ g _ refl h.1)
@@ -131,6 +145,7 @@ run_leaves_free p w (step_more {w = before} run (of_goroutine {f = f} {others = 
     let h = run_leaves_free p before run in
     (_, stacked h.0 before after g _ (acting_members p before.store (g, length others) f after frames a) h.1)
 run_leaves_free p w (step_more {w = before} run (of_members c)) = by_members p before w c (run_leaves_free p before run)
+run_leaves_free p w (step_more {w = before} run (of_go s)) = by_go p before w s (run_leaves_free p before run)
 run_leaves_free p w (step_more {w = before} run (of_environment s)) = by_environment p before w s (run_leaves_free p before run)
 
 pub goroutines_are_free : GoroutinesAreFree
@@ -140,7 +155,7 @@ pub none_given : (s : Store) → AreForeign s (λ v. nothing) (λ v. None)
 none_given s = record { any = λ v. any_nothing; foreign = λ v. outside_none }
 
 -- a free goroutine is none of those that run
-apart : (w : World) (g h : ℕ) (f : Frame) (others : List Frame) → w.stacks g ≡ f ∷ others → IsFree w h → h ≡ g → ⊥
+pub apart : (w : World) (g h : ℕ) (f : Frame) (others : List Frame) → w.stacks g ≡ f ∷ others → IsFree w h → h ≡ g → ⊥
 apart w g h f others at free q = let bad : [] ≡ f ∷ others = sym free.has_no_frame ∙ (ap w.stacks q ∙ at) in cc
 
 pub starts_one : (p : Program) (w : World) (g : ℕ) (f : Frame) (others : List Frame) (e : Event) (rest : Code Event)

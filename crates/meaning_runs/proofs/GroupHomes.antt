@@ -8,10 +8,12 @@ use Rattle.std.specs.Str.{bytes_eq}
 use Rattle.std.proofs.lemmas.Bool.{and_parts, or_left, or_right, eq-eqb, false≢true}
 use Rattle.std.proofs.lemmas.List.Elements.{Contains-append_left, Contains-append_right}
 use Rattle.std.proofs.lemmas.Option.{none-some, same_Some}
+use Rattle.tree.specs.declared.edition.Edition.{Edition}
+use Rattle.tree.specs.declared.edition.Edition.TheVariants.{First, Second}
 use Rattle.meaning.specs.FunctionFacts.{group}
-use Rattle.meaning.specs.Mentions.{Named, starts_by, is_start, is_one, nowhere, Call, LiteralUse, other_use, deferred_call, started_by, argument_use, called, Mention, BodyPlace, mentions, opens, mention}
+use Rattle.meaning.specs.Mentions.{Named, starts_by, is_start, is_one, nowhere, Call, LiteralUse, other_use, deferred_call, call_under_go, started_by, argument_use, called, Mention, BodyPlace, mentions, opens, mention}
 use Rattle.meaning.specs.Tracked.{local_meant_or, variable_of, Placed, Local}
-use Rattle.meaning.specs.Uses.{Seen, found, tracked_kind, is_group, is_body, is_outside, is_of_local, is_deferred, is_started_by_it, is_member_of, are_members, literals_between, Event, start, try, UseFault, Outcome, allowed_if, is_free, only_argument, is_statement_place, is_statement_or_value, group_started, group_tried, group_awaited, group_limited, group_called, group_use, use_outcome, mention_outcome, role_outcome, local_outcome, variable_outcome, mention_faults}
+use Rattle.meaning.specs.Uses.{Seen, found, tracked_kind, is_group, is_body, is_outside, is_of_local, is_started_by_it, is_member_of, are_members, literals_between, Event, start, try, UseFault, Outcome, allowed_if, is_free, only_argument, is_statement_place, is_statement_or_value, group_started, group_tried, group_awaited, group_limited, group_called, group_use, use_outcome, mention_outcome, role_outcome, local_outcome, variable_outcome, mention_faults, is_run, runs_once, is_deferred_use}
 use Rattle.meaning.specs.BodyEvents.{bodies_of, opened_in, mark_faults, outer_faults_of, outer_faults, faults_of, body_faults, variables_of, too_many_faults}
 use Rattle.meaning.proofs.Membership.{contains_here, contains_cases, contains_nil}
 use Rattle.meaning_packages.proofs.BodyPlaces.{placed_there}
@@ -19,13 +21,24 @@ use Rattle.meaning_runs.specs.Bodies.{Body}
 use Rattle.meaning_runs.specs.BodyOffsets.{AreApart}
 use Rattle.meaning_runs.proofs.BoundOnce.{IsWithout, of_its_mark}
 use Rattle.meaning_runs.proofs.Captured.{any_there}
-use Rattle.meaning_runs.proofs.GroupUses.{AreMembers, AreDeferred, members_declared}
+use Rattle.meaning_runs.proofs.GroupUses.{AreMembers, AreRunOnce, members_declared}
 use Rattle.meaning_runs.proofs.LeftSides.{Stands}
 use Rattle.meaning_runs.proofs.MarkForms.{is_started, literal_of}
 use Rattle.meaning_runs.proofs.MarksBeside.{EndsWith, all_of_them, one_more, AreInForm, opened_there}
 use Rattle.meaning_runs.proofs.OwnVariables.{found_is}
 use Rattle.meaning_runs.proofs.Places.{eqb_is}
 use Rattle.meaning_runs.proofs.TrackedBindings.{is_group_kind}
+
+-- what runs once is called under `defer` or `go`
+runs_anyhow : (edition : Edition) (b : BodyPlace) → runs_once edition b ≡ true → is_run b.literal ≡ true
+runs_anyhow First b e = by b.literal e
+  where
+    by : (used : LiteralUse) → is_deferred_use used ≡ true → is_run used ≡ true
+    by other_use q = absurd (false≢true q)
+    by deferred_call q = refl
+    by call_under_go q = absurd (false≢true q)
+    by (started_by n) q = absurd (false≢true q)
+runs_anyhow Second b e = e
 
 -- Homes
 
@@ -37,6 +50,7 @@ number_of_group seen (Some l) = if is_group (tracked_kind seen (Some l)) then So
 abbrev pub home_of : Seen → LiteralUse → Option ℕ
 home_of seen other_use = None
 home_of seen deferred_call = None
+home_of seen call_under_go = None
 home_of seen (started_by n) = number_of_group seen (found seen (local_meant_or (seen.known.means n.at) None))
 
 abbrev pub home_in : Body → Option ℕ
@@ -54,6 +68,7 @@ pub record IsAtHome (seen : Seen) (used : LiteralUse) (v : ℕ) : Type 0 where
 pub at_home : (seen : Seen) (used : LiteralUse) (v : ℕ) → home_of seen used ≡ Some v → IsAtHome seen used v
 at_home seen other_use v e = absurd (none-some v e)
 at_home seen deferred_call v e = absurd (none-some v e)
+at_home seen call_under_go v e = absurd (none-some v e)
 at_home seen (started_by n) v e = by (found seen (local_meant_or (seen.known.means n.at) None)) refl e
   where
     by_kind : (l : Local) (b : Bool)
@@ -100,6 +115,7 @@ member_home seen l b is tracked e = by b.literal e
     by : (used : LiteralUse) → is_started_by_it seen.known l used ≡ true → home_of seen used ≡ Some l.number
     by other_use q = absurd (false≢true q)
     by deferred_call q = absurd (false≢true q)
+    by call_under_go q = absurd (false≢true q)
     by (started_by n) q = home_found seen n l (ap (found seen) (number _ q) ∙ is) tracked
 
 -- Calls that start a literal
@@ -159,7 +175,7 @@ module _ (seen : Seen) (bodies : List BodyPlace) (m : Mention) (l : Local) (c : 
   by_tests n is_go is_try =
       if is_go then group_started seen l bodies c
       else if is_try then group_tried seen l bodies c
-      else if bytes_eq n (codes "Wait") then group_awaited l bodies c
+      else if bytes_eq n (codes "Wait") then group_awaited seen.known.edition l bodies c
       else if bytes_eq n (codes "SetLimit") then group_limited l bodies c
       else None
 
@@ -361,10 +377,11 @@ module _ (seen : Seen) (well : IsWellUsed seen) where
         → IsDeclaredIn l.body p.bodies
     by_members is tracked members = members_declared seen.known l p.bodies members
 
-    pub by_deferrals : AreDeferred p.bodies l → IsDeclaredIn l.body p.bodies
-    by_deferrals deferred = elim (declared_or is_deferred l.body p.bodies deferred) [
+    pub by_runs : AreRunOnce seen p.bodies l → IsDeclaredIn l.body p.bodies
+    by_runs once = elim (declared_or (runs_once seen.known.edition) l.body p.bodies once) [
       | inl h ↦ h
-      | inr all ↦ absurd (false≢true (sym ((well.form.beside _ begins).not_deferred refl) ∙ all outermost.0 outermost.1))
+      | inr all ↦ absurd (false≢true (sym ((well.form.beside _ begins).not_run refl)
+          ∙ runs_anyhow seen.known.edition outermost.0 (all outermost.0 outermost.1)))
     ]
 
   -- a literal does not declare its home

@@ -9,7 +9,7 @@ use Rattle.meaning.specs.Code.{Occurrence}
 use Rattle.meaning.specs.Lists.{Reaches}
 use Rattle.meaning.specs.FunctionFacts.{VariableKind, cancel, group}
 use Rattle.meaning.specs.Tracked.{GroupState, idle, live}
-use Rattle.meaning.specs.Uses.{VariableAt, Handed, Event, other, obtain, clear, call, defer_call, pass, defer_pass, lend, start, try, wait, defer_wait, make, defer_literal, return_event, is_group, obtain_kept, renew, keep, call_kept, defer_kept, give, give_field}
+use Rattle.meaning.specs.Uses.{VariableAt, Handed, Event, other, obtain, clear, call, defer_call, pass, defer_pass, lend, start, try, wait, defer_wait, make, defer_literal, return_event, is_group, obtain_kept, renew, keep, call_kept, defer_kept, give, give_field, go_call, go_pass, go_literal, go}
 use Rattle.meaning.specs.BodyEvents.{Variable, VariableRole, own_parameter, own_receiver, declared_in_body, captured}
 use Rattle.meaning.specs.Classes.{Promises, opened, pending, entry_cancel, GroupClass, unmade, in_state, awaited, entry_group, at_work, at_rest, change_group, group_after}
 use Rattle.meaning_packages.specs.PathFaults.{PathFault, IsPathFault, loses_cancel, returns_pending, BindsCancel, ComesToReturn, OwesCall, IsLeft, KeepsCall, paths_of, is_declared, is_lost, makes_it}
@@ -108,6 +108,9 @@ module _ (relies : Promises) where
   stays_made v (defer_wait g) k h = picks IsMade (g == v) awaited k awaited_is_made h
   stays_made v (make g state) k h = picks IsMade (g.number == v) (in_state state) k (state_is_made state) h
   stays_made v (defer_literal literal) k h = picks IsMade (relies.credits literal v) awaited k awaited_is_made h
+  stays_made v (go (go_call u)) k h = h
+  stays_made v (go (go_pass f xs)) k h = h
+  stays_made v (go (go_literal literal)) k h = picks IsMade (relies.credits literal v) (at_rest k) k (rest_is_made k h) h
   stays_made v (return_event handed) k h = h
 
   all_made : (v : ℕ) (k : GroupClass) (t : List (Occurrence Event)) → IsMade k → IsMade (group_after relies v k t)

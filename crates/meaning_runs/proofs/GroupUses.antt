@@ -1,21 +1,22 @@
 -- What an event about a group says of the mention that gives it: the mention is one of a local that is tracked as a
 -- group. Where it starts work in the group, it is the callee of a call of Go or TryGo that stands as a whole, and each
--- literal between it and the body that declares the group is started by the group too. Where it waits, each of these is
--- called under `defer`; and a group is lent in the body that declares it.
+-- literal between it and the body that declares the group is started by the group too. Where it waits, each of these
+-- runs once; and a group is lent in the body that declares it.
 use Rattle.std.proofs.Common.{◌≡◌, ℕ, Bool, true, false, inl, inr, List, [], ◌∷◌, Option, Some, None, Contains, refl, sym, ap, ◌∙◌, subst}
 use Rattle.std.specs.Prelude.{◌==◌, ◌&&◌, ◌||◌, if◌then◌else◌, codes}
 use Rattle.std.specs.List.{list_all, list_any}
 use Rattle.std.specs.Str.{bytes_eq}
 use Rattle.std.proofs.lemmas.Bool.{and_parts, and_from, or_left, or_right, false≢true}
 use Rattle.meaning.specs.FunctionFacts.{CancelType, cancel_type, group_type, VariableKind, cancel, group}
-use Rattle.meaning.specs.Mentions.{starts_by, is_start, BodyPlace, Row, Call, Role, elsewhere, as_key, called, called_in_brackets, argument, returned, left, names_type, new_literal, parameter_pointer, Mention, Mark, mentions, defers_literal, returns, opens, closes, exposed, found_nil, found_error, pointed_to, of_fields}
+use Rattle.meaning.specs.Mentions.{starts_by, is_start, BodyPlace, Row, Call, Role, elsewhere, as_key, called, called_in_brackets, argument, returned, left, names_type, new_literal, parameter_pointer, Mention, Mark, mentions, runs_literal, returns, opens, closes, exposed, found_nil, found_error, pointed_to, of_fields}
 use Rattle.meaning.specs.Tracked.{Known, variable_of, LocalRole, parameter, receiver, variadic, result, in_block, Local, Placed, is_universe}
-use Rattle.meaning.specs.Uses.{Seen, found, kind_of, tracked_kind, VariableAt, Callee, Event, other, obtain, clear, call, defer_call, pass, defer_pass, lend, start, try, wait, defer_wait, make, defer_literal, return_event, Binding, obtained, cleared, made, binding_at, binding_event, allowed_if, either_use, variable_at, cancel_called, cancel_passed, cancel_use, group_started, group_tried, group_awaited, group_limited, group_called, group_lent, group_use, kind_use, use_outcome, mention_outcome, binding_outcome, row_outcome, role_outcome, local_outcome, is_own, is_body, has_no_argument, has_its_arguments, is_statement_place, is_deferred_place, takes, is_given_as, cancel_type_of, is_call_place, callee_of, body_gives, is_free, only_argument, is_member_of, are_members, literals_between, is_statement_or_value, is_item_place, is_deferred, cancel_use_by, is_read, obtain_kept, renew, keep, call_kept, defer_kept, give, give_field}
+use Rattle.meaning.specs.Uses.{Seen, found, kind_of, tracked_kind, VariableAt, Callee, Event, other, obtain, clear, call, defer_call, pass, defer_pass, lend, start, try, wait, defer_wait, make, defer_literal, go_call, go, return_event, call_taken_on, taken_on, is_under_go, runs_once, Binding, obtained, cleared, made, binding_at, binding_event, allowed_if, either_use, variable_at, cancel_called, cancel_passed, cancel_use, group_started, group_tried, group_awaited, group_limited, group_called, group_lent, group_use, kind_use, use_outcome, mention_outcome, binding_outcome, row_outcome, role_outcome, local_outcome, is_own, is_body, has_no_argument, has_its_arguments, is_statement_place, is_deferred_place, takes, is_given_as, cancel_type_of, is_call_place, callee_of, body_gives, is_free, only_argument, is_member_of, are_members, literals_between, is_statement_or_value, is_item_place, cancel_use_by, is_read, obtain_kept, renew, keep, call_kept, defer_kept, give, give_field}
 use Rattle.meaning.specs.BodyEvents.{handed_on, mark_events}
 use Rattle.meaning.proofs.Membership.{contains_cases, contains_nil}
 use Rattle.meaning_runs.specs.Bodies.{Body}
 use Rattle.meaning_runs.specs.EventSources.{HasSource, says_nothing, falls_off, of_mark}
 use Rattle.meaning_runs.proofs.MarkForms.{literal_of}
+use Rattle.meaning_runs.proofs.SentEvents.{literal_event_fits}
 use Rattle.tree.specs.declared.edition.Edition.{Edition}
 use Rattle.tree.specs.declared.edition.Edition.TheVariants.{First, Second}
 use Rattle.meaning_runs.proofs.KeptEvents.{IsOfObject, by_renew, by_call, by_deferred, by_give, by_keep, by_outer, by_obtaining, by_gift, field_events_are}
@@ -44,6 +45,7 @@ is_about_group (wait g) = true
 is_about_group (defer_wait g) = true
 is_about_group (make u state) = false
 is_about_group (defer_literal at) = false
+is_about_group (go work) = false
 is_about_group (return_event handed) = false
 
 -- the mention stands in the body that declares the local, or in literals there that are started by it
@@ -78,9 +80,9 @@ members_between known l (b ∷ bs) e = by (b.at == l.body) e (members_between kn
         let parts = and_parts (is_member_of known l b) (are_members known l bs) h in
         and_from (is_member_of known l b) (list_all (is_member_of known l) (literals_between l.body bs)) parts.0 (more parts.1)
 
--- each of these is called under `defer`
-abbrev pub AreDeferred : List BodyPlace → Local → Type 0
-AreDeferred bodies l = list_all is_deferred (literals_between l.body bodies) ≡ true
+-- each of these runs once, where its statement is reached
+abbrev pub AreRunOnce : Seen → List BodyPlace → Local → Type 0
+AreRunOnce seen bodies l = list_all (runs_once seen.known.edition) (literals_between l.body bodies) ≡ true
 
 -- the mention is the callee of a call of Go or TryGo
 pub record IsStart (m : Mention) (c : Call) : Type 0 where
@@ -91,8 +93,8 @@ pub record IsStart (m : Mention) (c : Call) : Type 0 where
 pub data UsesGroup (seen : Seen) (bodies : List BodyPlace) (m : Mention) (l : Local) : Event → Type 0 where
   starts : (c : Call) → IsStart m c → AreMembers seen bodies l → UsesGroup seen bodies m l (start l.number (literal_of c))
   tries : (c : Call) → IsStart m c → AreMembers seen bodies l → UsesGroup seen bodies m l (try l.number (literal_of c))
-  waits : AreDeferred bodies l → UsesGroup seen bodies m l (wait l.number)
-  waits_later : AreDeferred bodies l → UsesGroup seen bodies m l (defer_wait l.number)
+  waits : AreRunOnce seen bodies l → UsesGroup seen bodies m l (wait l.number)
+  waits_later : AreRunOnce seen bodies l → UsesGroup seen bodies m l (defer_wait l.number)
   lends : (f : Callee) (k : ℕ) → is_own l bodies ≡ true → UsesGroup seen bodies m l (lend l.number f k)
 
 -- the mention is one of a group, and uses it so
@@ -188,13 +190,38 @@ module _ (P : Event → Type 0) where
   cancel_use_so known t l bodies m (new_literal row) = tt
   cancel_use_so known t l bodies m parameter_pointer = tt
 
+  call_taken_on_use : (t : CancelType) (v : ℕ) (selected : Option (List ℕ)) (c : Call)
+      → AllUseIf (call_taken_on t v selected c)
+  call_taken_on_use t v (Some n) c = tt
+  call_taken_on_use t v None c =
+      allowed (has_its_arguments t c && is_under_go c.place) (go (go_call v) ∷ []) (λ e. foreign (go (go_call v)) refl)
+
+  taken_on_use : (t : CancelType) (l : Local) (m : Mention) (r : Role) → AllUseIf (taken_on t l m r)
+  taken_on_use t l m (called c) = call_taken_on_use t l.number m.named.selected c
+  taken_on_use t l m elsewhere = tt
+  taken_on_use t l m as_key = tt
+  taken_on_use t l m exposed = tt
+  taken_on_use t l m pointed_to = tt
+  taken_on_use t l m (found_nil nil) = tt
+  taken_on_use t l m (found_error nil row) = tt
+  taken_on_use t l m called_in_brackets = tt
+  taken_on_use t l m (argument k b c) = tt
+  taken_on_use t l m (returned k) = tt
+  taken_on_use t l m (left k row) = tt
+  taken_on_use t l m (names_type row) = tt
+  taken_on_use t l m (new_literal row) = tt
+  taken_on_use t l m parameter_pointer = tt
+
   cancel_use_by_so : (edition : Edition) (known : Known) (t : CancelType) (l : Local) (bodies : List BodyPlace)
       (m : Mention) (r : Role)
       → AllUseIf (cancel_use_by edition known t l bodies m r)
   cancel_use_by_so First known t l bodies m r = cancel_use_so known t l bodies m r
   cancel_use_by_so Second known t l bodies m r =
-      either_one (cancel_use known t l bodies m r) (allowed_if (is_read t r m.named.selected) [])
-      (cancel_use_so known t l bodies m r) (allowed (is_read t r m.named.selected) [] (λ e. no_event))
+      either_one (cancel_use known t l bodies m r)
+      (either_use (taken_on t l m r) (allowed_if (is_read t r m.named.selected) []))
+      (cancel_use_so known t l bodies m r)
+      (either_one (taken_on t l m r) (allowed_if (is_read t r m.named.selected) []) (taken_on_use t l m r)
+      (allowed (is_read t r m.named.selected) [] (λ e. no_event)))
 
   -- Groups
 
@@ -212,31 +239,31 @@ module _ (P : Event → Type 0) where
     group_called_use is None q c role = tt
     group_called_use is (Some n) q c role =
         let members = are_members seen.known l bodies in
-        let saved = list_all is_deferred (literals_between l.body bodies) in
+        let saved = list_all (runs_once seen.known.edition) (literals_between l.body bodies) in
         let own_item = is_statement_or_value c.place || (is_item_place c.place && is_own l bodies) in
         let limited = if bytes_eq n (codes "SetLimit") then group_limited l bodies c else None in
-        let awaited = if bytes_eq n (codes "Wait") then group_awaited l bodies c else limited in
+        let awaited = if bytes_eq n (codes "Wait") then group_awaited seen.known.edition l bodies c else limited in
         let tried = if bytes_eq n (codes "TryGo") then group_tried seen l bodies c else awaited in
         let started_there = start l.number (literal_of c) in
         let tried_there = try l.number (literal_of c) in
         if_so (bytes_eq n (codes "Go")) (group_started seen l bodies c) tried
-        (λ go. allowed (is_statement_place c.place && (is_free seen (only_argument c) && members)) (started_there ∷ [])
+        (λ named. allowed (is_statement_place c.place && (is_free seen (only_argument c) && members)) (started_there ∷ [])
         (λ e. let parts = and_parts (is_statement_place c.place) (is_free seen (only_argument c) && members) e in
         one_use started_there (so is started_there (starts c record {
           is_callee = role;
-          is_of_start = ap starts_by q ∙ or_left (bytes_eq n (codes "Go")) (bytes_eq n (codes "TryGo")) go;
+          is_of_start = ap starts_by q ∙ or_left (bytes_eq n (codes "Go")) (bytes_eq n (codes "TryGo")) named;
           is_whole = statement_is_whole c parts.0;
         } (and_parts (is_free seen (only_argument c)) members parts.1).1))))
         (if_so (bytes_eq n (codes "TryGo")) (group_tried seen l bodies c) awaited
-        (λ go. allowed (is_statement_or_value c.place && (is_free seen (only_argument c) && members)) (tried_there ∷ [])
+        (λ named. allowed (is_statement_or_value c.place && (is_free seen (only_argument c) && members)) (tried_there ∷ [])
         (λ e. let parts = and_parts (is_statement_or_value c.place) (is_free seen (only_argument c) && members) e in
         one_use tried_there (so is tried_there (tries c record {
           is_callee = role;
-          is_of_start = ap starts_by q ∙ or_right (bytes_eq n (codes "Go")) (bytes_eq n (codes "TryGo")) go;
+          is_of_start = ap starts_by q ∙ or_right (bytes_eq n (codes "Go")) (bytes_eq n (codes "TryGo")) named;
           is_whole = parts.0;
         } (and_parts (is_free seen (only_argument c)) members parts.1).1))))
-        (if_so (bytes_eq n (codes "Wait")) (group_awaited l bodies c) limited
-        (λ go. either_one (allowed_if (has_no_argument c && (own_item && saved)) (wait l.number ∷ []))
+        (if_so (bytes_eq n (codes "Wait")) (group_awaited seen.known.edition l bodies c) limited
+        (λ named. either_one (allowed_if (has_no_argument c && (own_item && saved)) (wait l.number ∷ []))
         (allowed_if (has_no_argument c && (is_deferred_place c.place && saved)) (defer_wait l.number ∷ []))
         (allowed (has_no_argument c && (own_item && saved)) (wait l.number ∷ [])
         (λ e. one_use (wait l.number) (so is (wait l.number)
@@ -246,7 +273,7 @@ module _ (P : Event → Type 0) where
         (waits_later (and_parts (is_deferred_place c.place) saved
         (and_parts (has_no_argument c) (is_deferred_place c.place && saved) e).1).1)))))
         (if_so (bytes_eq n (codes "SetLimit")) (group_limited l bodies c) None
-        (λ go. allowed (is_statement_place c.place && is_own l bodies) [] (λ e. no_event)) tt)))
+        (λ named. allowed (is_statement_place c.place && is_own l bodies) [] (λ e. no_event)) tt)))
 
     group_lent_use : tracked_kind seen (Some l) ≡ Some group → (selected : Option (List ℕ)) (k : ℕ) (c : Call)
         → AllUseIf (group_lent seen.known l bodies selected k c)
@@ -379,15 +406,17 @@ by_mark b p among here (mentions m) is e h about = record {
   is_of_file = among;
   stands_here = here;
   is_mention = is;
-  use_of = elim (of_its_variable b.file p.bodies m e (λ v same. about_no_call e v same about) h) [
-    | inl own ↦ group_use_of b.file p.bodies m (found b.file (variable_of b.file.known m)) refl e own about
-    | inr object ↦ absurd (false≢true (sym (object_is_about_none e object) ∙ about))
-  ];
+  use_of = elim (of_its_variable b.file p.bodies m e (λ v same. about_no_call e v same about)
+      (λ is. false≢true (sym (ap is_about_group is.is_event) ∙ about)) h) [
+        | inl own ↦ group_use_of b.file p.bodies m (found b.file (variable_of b.file.known m)) refl e own about
+        | inr object ↦ absurd (false≢true (sym (object_is_about_none e object) ∙ about))
+      ];
 }
 by_mark b p among here (of_fields site m) is e h about =
     absurd (false≢true (sym (object_is_about_none e (field_events_are b.file p.bodies site m e h)) ∙ about))
-by_mark b p among here (defers_literal site at) is e h about =
-    absurd (foreign (λ x. ⊥) (defer_literal at) refl e h about)
+by_mark b p among here (runs_literal moment site at) is e h about =
+    absurd (literal_event_fits (λ x. is_about_group x ≡ true → ⊥) b.file.known.edition moment at (λ q. false≢true q)
+    (λ q. false≢true q) e h about)
 by_mark b p among here (returns at es) is e h about =
     absurd (foreign (λ x. ⊥) (return_event (handed_on b.file p.bodies 0 es)) refl e h about)
 by_mark b p among here (opens x) is e h about = absurd (contains_nil e h)

@@ -11,11 +11,11 @@ use Rattle.tree.specs.Syntax.{Expressions, no_expression, expression_and}
 use Rattle.meaning.specs.Code.{Occurrence}
 use Rattle.meaning.specs.Lists.{Exit, Lists, Reaches}
 use Rattle.meaning.specs.FunctionFacts.{group}
-use Rattle.meaning.specs.Mentions.{Named, is_start, is_one, CallPlace, Call, LiteralUse, other_use, deferred_call, started_by, argument_use, called, Mention, BodyPlace, mentions, opens}
+use Rattle.meaning.specs.Mentions.{Named, is_start, is_one, CallPlace, Call, LiteralUse, other_use, deferred_call, call_under_go, started_by, argument_use, called, Mention, BodyPlace, Moment, at_return, in_goroutine, mentions, opens}
 use Rattle.meaning.specs.Tracked.{local_meant_or, variable_of, Placed, outer, Local}
-use Rattle.meaning.specs.Uses.{Seen, found, VariableAt, Callee, Event, lend, defer_literal, is_body, is_own as is_own_of, is_of_local, is_deferred, is_deferred_use, is_member_of, literals_between, variable_outcome, error_events}
+use Rattle.meaning.specs.Uses.{Seen, found, VariableAt, Callee, Event, lend, is_body, is_own as is_own_of, is_of_local, is_run, runs_once, is_member_of, literals_between, variable_outcome, error_events}
 use Rattle.meaning.specs.Kept.{object_events}
-use Rattle.meaning.specs.BodyEvents.{Variable, captured, role_in, role_in_own, bodies_of, opened_in, is_declared_around, is_captured_there, is_variable_of, mark_events}
+use Rattle.meaning.specs.BodyEvents.{Variable, captured, role_in, role_in_own, bodies_of, opened_in, is_declared_around, is_captured_there, is_variable_of, sent_events, mark_events}
 use Rattle.meaning_packages.specs.CallsFlags.{has_name, is_function}
 use Rattle.meaning_packages.proofs.BodyPlaces.{placed_only}
 use Rattle.meaning_runs.specs.Bodies.{Program, Body, IsOf, IsOutermost, IsLiteralIn, code_of, variables_in, is_captured}
@@ -25,10 +25,11 @@ pub use Rattle.meaning_runs.specs.Steps.{Starts, by_start, by_try}
 use Rattle.meaning_runs.proofs.Bindings.{Binds, kind_bound, is_bound}
 use Rattle.meaning_runs.proofs.BodyOffsets.{opened_there as begun_there}
 use Rattle.meaning_runs.proofs.Captured.{any_true, own_role}
-use Rattle.meaning_runs.proofs.DeferredLiterals.{deferred_literal_there}
-use Rattle.meaning_runs.proofs.GroupHomes.{at_home, home_of, home_in, home_found, IsWellUsed, IsDeclaredIn, member_home, by_members, by_deferrals, outermost_has_no_home, home_is_around, started_by_mention}
-use Rattle.meaning_runs.proofs.GroupUses.{members_between, AreMembers, AreDeferred, UsesGroup, starts, tries, waits, waits_later, lends, HasGroupUse, is_about_group, group_use_there}
-use Rattle.meaning_runs.proofs.MarkForms.{is_started, literal_of}
+use Rattle.meaning_runs.proofs.DeferredLiterals.{run_literal_there}
+use Rattle.meaning_runs.proofs.SentEvents.{run_event}
+use Rattle.meaning_runs.proofs.GroupHomes.{at_home, home_of, home_in, home_found, IsWellUsed, IsDeclaredIn, member_home, by_members, by_runs, outermost_has_no_home, home_is_around, started_by_mention}
+use Rattle.meaning_runs.proofs.GroupUses.{members_between, AreMembers, AreRunOnce, UsesGroup, starts, tries, waits, waits_later, lends, HasGroupUse, is_about_group, group_use_there}
+use Rattle.meaning_runs.proofs.MarkForms.{is_started, literal_of, use_at}
 use Rattle.meaning_runs.proofs.MarksBeside.{IsOpened, IsBeside, EndsWith, all_of_them, opened_there}
 use Rattle.meaning_runs.proofs.OwnNumbers.{declares_it, is_own}
 use Rattle.meaning_runs.proofs.OwnBindings.{BindsVariable}
@@ -229,13 +230,13 @@ module _ (b : Body) (well : IsWellUsed b.file) (its : Contains (bodies_of b.file
           | inr member ↦ inr (member_home b.file l b.place is_found_so u.use_of.is_group member)
         ])
 
-    wait_allowed : (v : ℕ) → l.number ≡ v → AreDeferred bodies l
-        → (g : HasGroup b v) × (IsItsOwn g ⊎ (is_deferred b.place ≡ true))
+    wait_allowed : (v : ℕ) → l.number ≡ v → AreRunOnce b.file bodies l
+        → (g : HasGroup b v) × (IsItsOwn g ⊎ (runs_once b.file.known.edition b.place ≡ true))
     unfolding has_group
-    wait_allowed v same deferred =
-        as_number (λ n g. IsItsOwn g ⊎ (is_deferred b.place ≡ true)) v same
-        (has_group (by_deferrals b.file well u.placed u.is_of_file l its_bodies.first its_bodies.rest its_bodies.is_so deferred))
-        (own_or is_deferred deferred)
+    wait_allowed v same once =
+        as_number (λ n g. IsItsOwn g ⊎ (runs_once b.file.known.edition b.place ≡ true)) v same
+        (has_group (by_runs b.file well u.placed u.is_of_file l its_bodies.first its_bodies.rest its_bodies.is_so once))
+        (own_or (runs_once b.file.known.edition) once)
 
     own_allowed : (v : ℕ) → l.number ≡ v → is_own_of l bodies ≡ true → (g : HasGroup b v) × IsItsOwn g
     unfolding has_group
@@ -336,7 +337,8 @@ module _ (b : Body) (well : IsWellUsed b.file) (its : Contains (bodies_of b.file
         is_of_file = w.is_there;
         stands_here = is.stands_in_it;
         is_given = Contains-append_left (variable_outcome b.file around m).events
-            (error_events b.file m m.role ++ object_events b.file around m) e there;
+            (error_events b.file m m.role ++ (object_events b.file around m ++ sent_events b.file.known.edition b.file around m)) e
+            there;
         starts_it = same e h;
       } in
       elim w.allowed.gives_it [ inl there ↦ started _ there by_start | inr there ↦ started _ there by_try ]
@@ -383,13 +385,14 @@ module _ (b : Body) (well : IsWellUsed b.file) (its : Contains (bodies_of b.file
       let led = (opened_so m.0 m.1 m.2).led started in
       false≢true (ap (has_name name) (sym led.has_no_name) ∙ (and_parts (is_none b.place.receiver) (has_name name b.place.name) is).1)
 
--- nor has a literal that is called under `defer`, or anyhow else
-pub deferred_is_not_at_home : (b : Body) → is_deferred b.place ≡ true → home_in b ≡ None
-deferred_is_not_at_home b e = by b.place.literal e
+-- nor has a literal that is called under `defer` or `go`, or anyhow else
+pub run_is_not_at_home : (b : Body) → is_run b.place.literal ≡ true → home_in b ≡ None
+run_is_not_at_home b e = by b.place.literal e
   where
-    by : (used : LiteralUse) → is_deferred_use used ≡ true → home_of b.file used ≡ None
+    by : (used : LiteralUse) → is_run used ≡ true → home_of b.file used ≡ None
     by other_use q = absurd (false≢true q)
     by deferred_call q = refl
+    by call_under_go q = refl
     by (started_by n) q = absurd (false≢true q)
 
 -- what an event binds is a variable that the body declares, of the kind that it binds
@@ -402,16 +405,21 @@ bindings_are_own p b t o u of reached binds =
     let h = is_bound b t o u reached binds in
     binds_variable b u h (kind_bound o.event) (is_tracked p b t o u of reached binds h)
 
--- so each literal that begins where an event of the body saves one is called under `defer`
-pub saved_literal_is_deferred : (b : Body) → IsWellUsed b.file → (t : List (Occurrence Event)) (x : Exit)
+run_so : (moment : Moment) → is_run (use_at moment) ≡ true
+run_so at_return = refl
+run_so in_goroutine = refl
+
+-- so each literal that begins where an event of the body runs one is called under `defer` or `go`
+pub run_literal_runs : (b : Body) → IsWellUsed b.file → (t : List (Occurrence Event)) (x : Exit)
     → Lists (code_of b) t x
     → (o : Occurrence Event)
     → Contains t o
     → (d : Body)
+    → (moment : Moment)
     → IsLiteralIn b d
-    → o.event ≡ defer_literal d.place.at
-    → is_deferred d.place ≡ true
-saved_literal_is_deferred b well t x lists o among d is e =
-    let h = deferred_literal_there b well.form t x lists o among d.place.at e in
-    subst (λ c. is_deferred c.place ≡ true) (one_literal b well.apart h.literal d h.is_literal is h.begins_there)
-    (ap is_deferred_use h.is_used_so)
+    → o.event ≡ run_event moment d.place.at
+    → is_run d.place.literal ≡ true
+run_literal_runs b well t x lists o among d moment is e =
+    let h = run_literal_there b well.form t x lists o among moment d.place.at e in
+    subst (λ c. is_run c.place.literal ≡ true) (one_literal b well.apart h.literal d h.is_literal is h.begins_there)
+    (ap is_run h.is_used_so ∙ run_so moment)

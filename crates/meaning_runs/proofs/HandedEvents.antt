@@ -5,12 +5,12 @@ use Rattle.std.proofs.lemmas.Bool.{eq-eqb, false≢true}
 use Rattle.std.proofs.lemmas.List.Elements.{Contains-append_left, Contains-append_right}
 use Rattle.meaning.specs.Code.{Occurrence}
 use Rattle.meaning.specs.Lists.{Reaches}
-use Rattle.meaning.specs.Mentions.{Mark, mentions, defers_literal, returns, opens, closes, of_fields}
+use Rattle.meaning.specs.Mentions.{Mark, mentions, runs_literal, returns, opens, closes, of_fields}
 use Rattle.meaning.specs.Tracked.{Placed}
 use Rattle.meaning.specs.Uses.{Callee, Event, other, return_event, Seen, is_body}
 use Rattle.meaning.specs.BodyEvents.{bodies_of, mark_events, is_site, events_at}
 use Rattle.meaning.proofs.Membership.{contains_cases, contains_nil}
-use Rattle.meaning_reports.specs.UsedImports.{HandsTo, passes, defers, lends, HandsThere}
+use Rattle.meaning_reports.specs.UsedImports.{HandsTo, passes, defers, lends, goes, HandsThere}
 use Rattle.meaning_runs.specs.Bodies.{Body, code_of}
 use Rattle.meaning_runs.specs.EventSources.{HasSource, says_nothing, falls_off, of_mark}
 use Rattle.meaning_runs.proofs.EventSources.{events_have_sources}
@@ -19,17 +19,19 @@ other_hands_nothing : (f : Callee) (e : Event) → e ≡ other → HandsTo f e �
 other_hands_nothing f e same passes = cc
 other_hands_nothing f e same defers = cc
 other_hands_nothing f e same lends = cc
+other_hands_nothing f e same goes = cc
 
 return_hands_nothing : (f : Callee) (e : Event) → e ≡ return_event [] → HandsTo f e → ⊥
 return_hands_nothing f e same passes = cc
 return_hands_nothing f e same defers = cc
 return_hands_nothing f e same lends = cc
+return_hands_nothing f e same goes = cc
 
 -- where a mark gives its events
 abbrev site_of : Mark → ℕ
 site_of (mentions m) = m.site
 site_of (of_fields site m) = site
-site_of (defers_literal site at) = site
+site_of (runs_literal moment site at) = site
 site_of (returns site es) = site
 site_of (opens b) = 0
 site_of closes = 0
@@ -41,7 +43,7 @@ is_its_site seen p e h = by p.mark h
     by : (m : Mark) → Contains (mark_events seen p.bodies m) e → is_site m (site_of m) ≡ true
     by (mentions m) k = eq-eqb m.site m.site refl
     by (of_fields site x) k = eq-eqb site site refl
-    by (defers_literal site at) k = eq-eqb site site refl
+    by (runs_literal moment site at) k = eq-eqb site site refl
     by (returns site es) k = eq-eqb site site refl
     by (opens b) k = absurd (contains_nil e k)
     by closes k = absurd (contains_nil e k)

@@ -15,14 +15,14 @@ use Rattle.meaning.specs.OuterBlocks.{PackageNames, PackageLevel, import_name_of
 use Rattle.meaning.specs.Scopes.{LocalName, file_names}
 use Rattle.meaning.specs.Declarations.{Meaning, local_name, import_name, function_name, package_name, universe_name, locals_of, local_meant, Use, uses_of, use_at, package_or_universe, import_or_around, local_or_around, meaning_of, meaning_at}
 use Rattle.meaning.specs.FunctionFacts.{CancelType, cancel_type, group_type, VariableKind, cancel, group}
-use Rattle.meaning.specs.Mentions.{Named, BodyPlace, Row, Call, Role, elsewhere, as_key, exposed, found_nil, found_error, called, called_in_brackets, argument, returned, left, names_type, new_literal, parameter_pointer, Mention, Mark, mentions, defers_literal, returns, opens, closes, pointed_to, of_fields}
+use Rattle.meaning.specs.Mentions.{Named, BodyPlace, Row, Call, Role, elsewhere, as_key, exposed, found_nil, found_error, called, called_in_brackets, argument, returned, left, names_type, new_literal, parameter_pointer, Mention, Mark, mentions, runs_literal, returns, opens, closes, pointed_to, of_fields}
 use Rattle.meaning.specs.Tracked.{Known, is_universe, variable_of, LocalRole, parameter, receiver, variadic, result, in_block, Local}
-use Rattle.meaning.specs.Uses.{Callee, path_meant, callee_of, VariableAt, Seen, found, kind_of, tracked_kind, Event, call, defer_call, pass, defer_pass, lend, start, try, wait, defer_wait, return_event, defer_literal, Binding, obtained, cleared, made, binding_at, binding_event, variable_at, cancel_called, cancel_passed, cancel_use, cancel_use_by, is_read, allowed_if, either_use, group_started, group_tried, group_awaited, group_limited, group_called, group_lent, group_use, kind_use, mention_outcome, binding_outcome, row_outcome, role_outcome, local_outcome, variable_outcome, lost_to, error_events, is_own, has_no_argument, has_its_arguments, is_statement_place, is_deferred_place, takes, is_given_as, cancel_type_of, is_call_place, body_gives, is_free, only_argument, started_literal, are_members, literals_between, is_statement_or_value, is_item_place, is_deferred}
-use Rattle.meaning.specs.BodyEvents.{mark_events, handed_on, seen_file}
+use Rattle.meaning.specs.Uses.{Callee, path_meant, callee_of, VariableAt, Seen, found, kind_of, tracked_kind, Event, call, defer_call, pass, defer_pass, lend, start, try, wait, defer_wait, return_event, defer_literal, Binding, obtained, cleared, made, binding_at, binding_event, variable_at, cancel_called, cancel_passed, cancel_use, cancel_use_by, is_read, allowed_if, either_use, group_started, group_tried, group_awaited, group_limited, group_called, group_lent, group_use, kind_use, mention_outcome, binding_outcome, row_outcome, role_outcome, local_outcome, variable_outcome, lost_to, error_events, is_own, has_no_argument, has_its_arguments, is_statement_place, is_deferred_place, takes, is_given_as, cancel_type_of, is_call_place, body_gives, is_free, only_argument, started_literal, are_members, literals_between, is_statement_or_value, is_item_place, go_call, go_pass, go_literal, go, runs_once, taken_on, call_taken_on, is_under_go}
+use Rattle.meaning.specs.BodyEvents.{mark_events, handed_on, seen_file, sent_events}
 use Rattle.meaning.proofs.Membership.{contains_here, contains_there, contains_cases, contains_nil, contains_map}
 use Rattle.imports.specs.Ranks.{Package}
 use Rattle.meaning_reports.specs.Loaded.{LoadedPackage, HaveDistinctPaths, Tables, counts, counts_as_given, trees_of, imports_of, imported_paths, package_names, means_in, known_in, seen_from, seen_files}
-use Rattle.meaning_reports.specs.UsedImports.{HandsTo, passes, defers, lends, HandsThere, Uses}
+use Rattle.meaning_reports.specs.UsedImports.{HandsTo, passes, defers, lends, goes, HandsThere, Uses}
 use Rattle.meaning_reports.proofs.ImportsOf.{gives, in_lists, given_in_lists, list_item}
 use Rattle.meaning_runs.specs.Bodies.{Program, Body, IsRun, IsOf, IsNamed}
 use Rattle.meaning_runs.specs.Promise.{AreClosed}
@@ -32,6 +32,7 @@ use Rattle.meaning_runs.proofs.HandedEvents.{hands_there}
 use Rattle.meaning.specs.Kept.{object_events}
 use Rattle.meaning_runs.proofs.KeptEvents.{IsOfObject, by_renew, by_call, by_deferred, by_give, by_keep, by_outer, by_obtaining, by_gift, object_events_are, field_events_are}
 use Rattle.meaning_runs.proofs.MentionEvents.{AllFit, AllFitIf, none_given, one_fits, allowed, one_allowed, if_so, use_outcome_fits}
+use Rattle.meaning_runs.proofs.SentEvents.{sent_events_are, literal_event_fits}
 
 -- Events
 
@@ -39,18 +40,21 @@ abbrev is_handing : Event → Bool
 is_handing (pass u f k) = true
 is_handing (defer_pass u f k) = true
 is_handing (lend v f k) = true
+is_handing (go (go_pass f xs)) = true
 is_handing e = false
 
 abbrev callee_in : Event → Callee
 callee_in (pass u f k) = f
 callee_in (defer_pass u f k) = f
 callee_in (lend v f k) = f
+callee_in (go (go_pass f xs)) = f
 callee_in e = record { path = None; name = [] }
 
 hands_so : (f : Callee) (e : Event) → HandsTo f e → (is_handing e ≡ true) × (callee_in e ≡ f)
 hands_so f e passes = (refl, refl)
 hands_so f e defers = (refl, refl)
 hands_so f e lends = (refl, refl)
+hands_so f e goes = (refl, refl)
 
 module _ (known : Known) where
   -- what the event hands something to is what a name means
@@ -107,16 +111,43 @@ module _ (known : Known) where
     cancel_use_named t m (new_literal row) = tt
     cancel_use_named t m parameter_pointer = tt
 
-    read_or_named : (o : Option (List Event)) (b : Bool) → AllFitIf HandsToNamed o
-        → AllFitIf HandsToNamed (either_use o (allowed_if b []))
-    read_or_named None b h = allowed HandsToNamed b [] (none_given HandsToNamed)
-    read_or_named (Some es) b h = h
+    either_named : (o k : Option (List Event)) → AllFitIf HandsToNamed o → AllFitIf HandsToNamed k
+        → AllFitIf HandsToNamed (either_use o k)
+    either_named None k h m = m
+    either_named (Some es) k h m = h
+
+    call_taken_on_named : (t : CancelType) (selected : Option (List ℕ)) (c : Call)
+        → AllFitIf HandsToNamed (call_taken_on t l.number selected c)
+    call_taken_on_named t (Some m) c = tt
+    call_taken_on_named t None c =
+        let e = go (go_call l.number) in
+        allowed HandsToNamed (has_its_arguments t c && is_under_go c.place) (e ∷ []) (one_fits HandsToNamed e (quiet e refl))
+
+    taken_on_named : (t : CancelType) (m : Mention) (r : Role) → AllFitIf HandsToNamed (taken_on t l m r)
+    taken_on_named t m (called c) = call_taken_on_named t m.named.selected c
+    taken_on_named t m elsewhere = tt
+    taken_on_named t m as_key = tt
+    taken_on_named t m exposed = tt
+    taken_on_named t m pointed_to = tt
+    taken_on_named t m (found_nil nil) = tt
+    taken_on_named t m (found_error nil row) = tt
+    taken_on_named t m called_in_brackets = tt
+    taken_on_named t m (argument k b c) = tt
+    taken_on_named t m (returned k) = tt
+    taken_on_named t m (left k row) = tt
+    taken_on_named t m (names_type row) = tt
+    taken_on_named t m (new_literal row) = tt
+    taken_on_named t m parameter_pointer = tt
 
     cancel_use_by_named : (edition : Edition) (t : CancelType) (m : Mention) (r : Role)
         → AllFitIf HandsToNamed (cancel_use_by edition known t l bodies m r)
     cancel_use_by_named First t m r = cancel_use_named t m r
     cancel_use_by_named Second t m r =
-        read_or_named (cancel_use known t l bodies m r) (is_read t r m.named.selected) (cancel_use_named t m r)
+        either_named (cancel_use known t l bodies m r)
+        (either_use (taken_on t l m r) (allowed_if (is_read t r m.named.selected) []))
+        (cancel_use_named t m r)
+        (either_named (taken_on t l m r) (allowed_if (is_read t r m.named.selected) []) (taken_on_named t m r)
+        (allowed HandsToNamed (is_read t r m.named.selected) [] (none_given HandsToNamed)))
 
     group_lent_named : (selected : Option (List ℕ)) (k : ℕ) (c : Call)
         → AllFitIf HandsToNamed (group_lent known l bodies selected k c)
@@ -143,9 +174,9 @@ module _ (seen : Seen) (bodies : List BodyPlace) (l : Local) where
   group_called_named None c = tt
   group_called_named (Some m) c =
       let inside = are_members seen.known l bodies in
-      let saved = list_all is_deferred (literals_between l.body bodies) in
+      let saved = list_all (runs_once seen.known.edition) (literals_between l.body bodies) in
       let limited = if bytes_eq m (codes "SetLimit") then group_limited l bodies c else None in
-      let awaited = if bytes_eq m (codes "Wait") then group_awaited l bodies c else limited in
+      let awaited = if bytes_eq m (codes "Wait") then group_awaited seen.known.edition l bodies c else limited in
       let tried = if bytes_eq m (codes "TryGo") then group_tried seen l bodies c else awaited in
       let started = start l.number (started_literal (only_argument c)) in
       let attempted = try l.number (started_literal (only_argument c)) in
@@ -155,7 +186,7 @@ module _ (seen : Seen) (bodies : List BodyPlace) (l : Local) where
       (if_so Fits (bytes_eq m (codes "TryGo")) (group_tried seen l bodies c) awaited
       (allowed Fits (is_statement_or_value c.place && (is_free seen (only_argument c) && inside)) (attempted ∷ [])
       (one_fits Fits attempted (quiet seen.known attempted refl)))
-      (if_so Fits (bytes_eq m (codes "Wait")) (group_awaited l bodies c) limited
+      (if_so Fits (bytes_eq m (codes "Wait")) (group_awaited seen.known.edition l bodies c) limited
       (one_allowed Fits (has_no_argument c &&
       ((is_statement_or_value c.place || (is_item_place c.place && is_own l bodies)) && saved))
       (has_no_argument c && (is_deferred_place c.place && saved)) (wait l.number) (defer_wait l.number)
@@ -275,17 +306,24 @@ mark_named : (seen : Seen) (bodies : List BodyPlace) (m : Mark)
 mark_named seen bodies (mentions m) = λ e h.
     let lost = error_events seen m m.role in
     let of_objects = object_events seen bodies m in
-    elim (Contains-append_cases (variable_outcome seen bodies m).events (lost ++ of_objects) e h) [
+    let sent = sent_events seen.known.edition seen bodies m in
+    elim (Contains-append_cases (variable_outcome seen bodies m).events (lost ++ (of_objects ++ sent)) e h) [
       | inl of_use ↦ local_named seen bodies m (found seen (variable_of seen.known m)) e of_use
-      | inr more ↦ elim (Contains-append_cases lost of_objects e more) [
+      | inr more ↦ elim (Contains-append_cases lost (of_objects ++ sent) e more) [
         | inl of_error ↦ error_named seen m m.role e of_error
-        | inr of_object ↦ quiet seen.known e (object_hands_nothing e (object_events_are seen bodies m e of_object))
+        | inr rest ↦ elim (Contains-append_cases of_objects sent e rest) [
+          | inl of_object ↦ quiet seen.known e (object_hands_nothing e (object_events_are seen bodies m e of_object))
+          | inr by_going ↦
+              let is = sent_events_are seen bodies m e by_going in
+              named seen.known e is.call.callee (ap callee_in is.is_event)
+        ]
       ]
     ]
 mark_named seen bodies (of_fields site m) = λ e h.
     quiet seen.known e (object_hands_nothing e (field_events_are seen bodies site m e h))
-mark_named seen bodies (defers_literal site at) =
-    one_fits (HandsToNamed seen.known) (defer_literal at) (quiet seen.known (defer_literal at) refl)
+mark_named seen bodies (runs_literal moment site at) =
+    literal_event_fits (HandsToNamed seen.known) seen.known.edition moment at (quiet seen.known (defer_literal at) refl)
+    (quiet seen.known (go (go_literal at)) refl)
 mark_named seen bodies (returns at es) =
     let e = return_event (handed_on seen bodies 0 es) in
     one_fits (HandsToNamed seen.known) e (quiet seen.known e refl)

@@ -3,18 +3,19 @@ use Rattle.std.proofs.Common.{◌≡◌, ℕ, ◌<◌, ◌⊎◌, inl, inr, true
 use Rattle.std.proofs.lemmas.Bool.{cases_eq}
 use Rattle.std.proofs.lemmas.Option.{none-some, same_Some}
 use Rattle.meaning.specs.Code.{Code}
-use Rattle.meaning.specs.Uses.{Event}
+use Rattle.meaning.specs.Uses.{Event, go_call, go_pass, go_literal, go}
 use Rattle.meaning.proofs.Membership.{contains_nil, contains_here, contains_cases}
 use Rattle.meaning_runs.specs.Bodies.{Program, Body, IsOf, is_captured_by}
-use Rattle.meaning_runs.specs.World.{Value, cancel_function, nobody, outside, frame_at, Place, Store, put_at, with_new, calling, ending, with_group, IsOutside, outside_none, outside_group, with_member, with_cells, Lent, Passing, Saved, saved_pass, Frame, World, with_stack, group_in_cell, held_group, new_frame, nothing_around}
-use Rattle.meaning_runs.specs.Steps.{ComesTo, at_code, ComesToCall, at_once, saved_before, IsFree, StartsWork, ChangesMembers, starts_member, starts_stranger, starts_outside, starts_beside, leaves_group, Surrounds, starts, evaluates_literal, starts_literal, makes_cells, makes_one, ends_one, calls_any, makes_outside, joins_outside, Step, of_goroutine, of_members, of_environment}
+use Rattle.meaning_runs.specs.World.{to_call_too, held, Value, cancel_function, nobody, outside, frame_at, Place, Store, put_at, with_new, calling, ending, with_group, IsOutside, outside_none, outside_group, with_member, with_cells, Lent, Passing, Saved, saved_pass, Frame, World, with_stack, group_in_cell, held_group, new_frame, nothing_around}
+use Rattle.meaning_runs.specs.Steps.{IsLentTo, past_go, sending, declared_too, StartsGoroutine, starts_call, starts_function, starts_foreign, starts_its_literal, ComesTo, at_code, ComesToCall, at_once, saved_before, IsFree, StartsWork, ChangesMembers, starts_member, starts_stranger, starts_outside, starts_beside, leaves_group, Surrounds, starts, evaluates_literal, starts_literal, makes_cells, makes_one, ends_one, calls_any, makes_outside, joins_outside, Step, of_goroutine, of_members, of_go, of_environment}
 use Rattle.meaning_runs.specs.Runs.{Run, no_step, step_more}
 use Rattle.meaning_runs.proofs.Contexts.{put_at-same, put_at-other}
 use Rattle.meaning_runs.proofs.GroupHomes.{home_in}
+use Rattle.meaning_runs.proofs.GoingCalls.{to_call_more, declared_more}
 use Rattle.meaning_runs.proofs.WhoStarts.{Startable, by_own, by_parameter, by_home, BodiesAreWellUsed}
-use Rattle.meaning_runs.proofs.Remembered.{Root, Origins, Past, Memory, no_root, with_block, with_root, value_given, no_past, first_past, later_pasts, occurrence_of, origins_after, pasts_after, pasts_behind, memory_of_members, memory_of_start, memory_of_environment, memory_after, memory_of}
+use Rattle.meaning_runs.proofs.Remembered.{root_of, with_begun, memory_of_go, Root, Origins, Past, Memory, no_root, with_block, with_root, no_past, first_past, later_pasts, occurrence_of, origins_after, pasts_after, pasts_behind, memory_of_members, memory_of_start, memory_of_environment, memory_after, memory_of}
 use Rattle.meaning_runs.proofs.Holders.{Grows, IsKnown, IsFrom, from_outside, from_below, IsSource, is_outside, is_made, was_lent, IsApart, IsHolder, AreHolders, IsHeld}
-use Rattle.meaning_runs.proofs.StoreGrowth.{frame-nobody, outside-nobody, same_frame, ChangesContexts, no_change, new_changes, calling_changes, ending_changes, contexts_grow, member_grows, block_grows, group_grows, contexts_known, block_known, group_known, joining_known, leaving_known}
+use Rattle.meaning_runs.proofs.StoreGrowth.{begun_grows, calls_grow, frame-nobody, outside-nobody, same_frame, ChangesContexts, no_change, new_changes, calling_changes, ending_changes, contexts_grow, member_grows, member_leaves, block_grows, group_grows, contexts_known, block_known, group_known, joining_known, leaving_known}
 use Rattle.meaning_runs.proofs.HolderFrames.{apart_grows, holders_stand, reached, holder_behind}
 use Rattle.meaning_runs.proofs.HolderBindings.{holder_new}
 use Rattle.meaning_runs.proofs.HolderSteps.{own_is_declared, parameter_is_its, outside_is, captured_is_frozen, evaluated_is_apart, acts_held, literal_is_of}
@@ -163,7 +164,7 @@ module _ (p : Program) (used : BodiesAreWellUsed p) where
       (record m { origins = with_root m.origins g root })
   joined_held w m g a root free has it =
       all_stand w m (with_root m.origins g root) (with_member w.store g (Some a))
-      (member_grows nobody m.origins w.store (put_at m.origins.root g root) g (Some a))
+      (member_grows nobody m.origins w.store root g (Some a))
       (λ h b e. by_number h b e (cases_eq h g)) (joining_known w.store g a has it.known) it
     where
       by_number : (h b : ℕ) → w.store.member h ≡ Some b → (h ≡ g) ⊎ (h ≡ g → ⊥)
@@ -261,11 +262,7 @@ module _ (p : Program) (used : BodiesAreWellUsed p) where
       let place : Place = (g, length others) in
       let q = first_past (m.pasts g) in
       let d = work.does_next.comes_to in
-      let root : Root = record {
-        literal = Some b;
-        given = value_given (with_member w.store h (Some a)) b values
-            f.newest;
-      } in
+      let root : Root = root_of (with_member w.store h (Some a)) b values groups f.newest in
       let w2 : World = record w {
         store = with_member w.store h (Some a);
         stacks = put_at w.stacks g
@@ -314,7 +311,7 @@ module _ (p : Program) (used : BodiesAreWellUsed p) where
   }
     where
       grows : Grows nobody m.origins m.origins w.store (with_member w.store g None)
-      grows = member_grows nobody m.origins w.store m.origins.root g None
+      grows = member_leaves nobody m.origins w.store g None
 
       by_number : (h : ℕ) → (h ≡ g) ⊎ (h ≡ g → ⊥)
           → AreHolders p m.origins (with_member w.store g None) h (w.stacks h) (m.pasts h)
@@ -327,6 +324,75 @@ module _ (p : Program) (used : BodiesAreWellUsed p) where
           holders_stand nobody m.origins m.origins w.store (with_member w.store g None) grows p h (w.stacks h)
           (m.pasts h)
           (λ i l. frame-nobody (h, i)) (λ c e. put_at-other w.store.member g None h ne ∙ e) (it.holders h)
+
+  -- A `go` statement starts a goroutine
+
+  -- which says nothing of what is to be called
+  to_call_held : (w : World) (m : Memory) (to_call : List ℕ) → IsHeld p w m
+      → IsHeld p (record w { to_call = to_call }) m
+  to_call_held w m to_call it = record { known = it.known; escaped = it.escaped; holders = it.holders }
+
+  -- more is remembered
+  more_remembered : (w : World) (m : Memory) (after_o : Origins) → Grows nobody m.origins after_o w.store w.store
+      → IsHeld p w m
+      → IsHeld p w (record m { origins = after_o })
+  more_remembered w m after_o grows it = all_stand w m after_o w.store grows (λ h a e. e) it.known it
+
+  goings_held : (w next : World) (m : Memory) (going : StartsGoroutine p w next) → IsHeld p w m
+      → IsHeld p next (memory_of_go going m)
+  goings_held w next m (starts_call {f = f} {others = others} {rest = rest} {v = v} g sets) it =
+      let d = sets.does_next.comes_to in
+      let past : World = past_go w g f others rest in
+      let m1 : Memory = record m { pasts = put_at m.pasts g (pasts_behind (m.pasts g) d) } in
+      let calls = to_call_too (held w.store f v) m.origins.to_call in
+      to_call_held past (record m1 { origins = record (m.origins) { to_call = calls } })
+      (to_call_too (held w.store f v) w.to_call)
+      (more_remembered past m1 (record (m.origins) { to_call = calls })
+      (calls_grow nobody m.origins w.store calls (to_call_more (held w.store f v) m.origins.to_call))
+      (past_held w m it g f others sets.is_running (go (go_call v)) rest d))
+  goings_held w next m (starts_foreign {f = f} {others = others} {rest = rest} {callee = callee} {xs = xs} g sets none) it =
+      let d = sets.does_next.comes_to in
+      let past : World = past_go w g f others rest in
+      let m1 : Memory = record m { pasts = put_at m.pasts g (pasts_behind (m.pasts g) d) } in
+      let given = (sending w.store f callee xs).given in
+      let calls = declared_too p callee given m.origins.to_call in
+      to_call_held past (record m1 { origins = record (m.origins) { to_call = calls } })
+      (declared_too p callee given w.to_call)
+      (more_remembered past m1 (record (m.origins) { to_call = calls })
+      (calls_grow nobody m.origins w.store calls (declared_more p callee given m.origins.to_call))
+      (past_held w m it g f others sets.is_running (go (go_pass callee xs)) rest d))
+  goings_held w next m (starts_function {f = f} {others = others} {rest = rest} {callee = callee} {xs = xs} g h b values
+      groups sets free is fits) it =
+      let d = sets.does_next.comes_to in
+      let past : World = past_go w g f others rest in
+      let m1 : Memory = record m { pasts = put_at m.pasts g (pasts_behind (m.pasts g) d) } in
+      let root = root_of w.store b values groups nothing_around in
+      begun_held past (record m1 { origins = with_begun m.origins root }) h b values groups nothing_around is.is_of
+      (λ v k e. absurd (none-some k e)) (λ v k e c. absurd (none-some k e)) (λ v. foreign v (fits.other_groups v))
+      (λ v a home e. absurd (none-some a e))
+      (more_remembered past m1 (with_begun m.origins root) (begun_grows nobody m.origins w.store root)
+      (past_held w m it g f others sets.is_running (go (go_pass callee xs)) rest d))
+    where
+      foreign : (v : ℕ) → IsLentTo b [] v ⊎ IsOutside w.store (groups v) → IsOutside w.store (groups v)
+      foreign v (inl lent) = absurd (contains_nil lent.argument lent.is_lent)
+      foreign v (inr out) = out
+  goings_held w next m (starts_its_literal {f = f} {others = others} {rest = rest} {at = at} g h b values groups sets free
+      is_in is_at foreign) it =
+      let holder = (its_frames w m it g f others sets.is_running).0 in
+      let place : Place = (g, length others) in
+      let q = first_past (m.pasts g) in
+      let d = sets.does_next.comes_to in
+      let past : World = past_go w g f others rest in
+      let m1 : Memory = record m { pasts = put_at m.pasts g (pasts_behind (m.pasts g) d) } in
+      let root = root_of w.store b values groups f.newest in
+      let homeless = used.gone_has_no_home f.body q.events (occurrence_of d) at b holder.is_of
+      (reached p m.origins w.store place q f holder (go (go_literal at)) rest d) refl is_in is_at in
+      begun_held past (record m1 { origins = with_begun m.origins root }) h b values groups f.newest
+      (literal_is_of p f.body b holder.is_of is_in) holder.cells_in
+      (λ v k e c. captured_is_frozen p used m.origins w.store place q f holder b is_in v k e c) foreign.foreign
+      (λ v a home e. absurd (none-some v (sym homeless ∙ home)))
+      (more_remembered past m1 (with_begun m.origins root) (begun_grows nobody m.origins w.store root)
+      (past_held w m it g f others sets.is_running (go (go_literal at)) rest d))
 
   -- The environment
 
@@ -383,10 +449,11 @@ module _ (p : Program) (used : BodiesAreWellUsed p) where
       (pasts_after acts m.origins q ++ qs)
       well.grows (λ h ne. well.same_member h) well.known well.holders it
   step_held w next m (of_members changes) it = members_held w next m changes it
+  step_held w next m (of_go going) it = goings_held w next m going it
   step_held w next m (of_environment surrounds) it = environment_held w next m surrounds it
 
-  pub run_held : (w : World) (run : Run p w) → IsHeld p w (memory_of run)
-  run_held w no_step = record {
+  pub run_held : (least : ℕ) (w : World) (run : Run p w) → IsHeld p w (memory_of least run)
+  run_held least w no_step = record {
     known = record {
       is_fresh = λ a l. refl;
       is_empty = λ k v l. refl;
@@ -395,4 +462,5 @@ module _ (p : Program) (used : BodiesAreWellUsed p) where
     escaped = λ c h. absurd (contains_nil c h);
     holders = λ g. tt;
   }
-  run_held w (step_more {w = before} run step) = step_held before w (memory_of run) step (run_held before run)
+  run_held least w (step_more {w = before} run step) =
+      step_held before w (memory_of least run) step (run_held least before run)

@@ -12,7 +12,7 @@ use Rattle.meaning_runs.proofs.Places.{IsAt}
 use Rattle.meaning_runs.proofs.GroupDuties.{is_mentioned}
 use Rattle.meaning_runs.proofs.GroupHomes.{home_in}
 use Rattle.meaning_runs.proofs.WhoStarts.{is_declared_in}
-use Rattle.meaning_runs.proofs.Remembered.{Origins, Past, Memory}
+use Rattle.meaning_runs.proofs.Remembered.{Root, Origins, Past, Memory}
 
 -- The store grows
 
@@ -31,6 +31,10 @@ pub record Grows (at : Maker) (o after_o : Origins) (s after : Store) : Type 0 w
   pub same_frozen : (k : ℕ) → k < s.cell_count → after_o.is_frozen k ≡ o.is_frozen k
   pub same_maker : (a : ℕ) → (s.maker a ≡ nobody → ⊥) → after.maker a ≡ s.maker a
   pub same_context : (a : ℕ) → (s.maker a ≡ nobody → ⊥) → after.group_context a ≡ s.group_context a
+  pub more_begun : (r : Root) → Contains o.begun r → Contains after_o.begun r
+  pub still_gone : o.has_gone ≡ true → after_o.has_gone ≡ true
+  pub more_to_call : (a : ℕ) → Contains o.to_call a → Contains after_o.to_call a
+  pub same_least : after_o.least ≡ o.least
 
 -- numbers that nothing has yet stand for nothing, and each member is one of a group that is there
 pub record IsKnown (s : Store) : Type 0 where

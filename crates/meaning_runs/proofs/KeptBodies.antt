@@ -11,6 +11,7 @@ use Rattle.meaning_runs.proofs.GroupDuties.{well_used}
 use Rattle.meaning_runs.proofs.GroupVariables.{starts_are_allowed, bindings_are_own}
 use Rattle.meaning_runs.proofs.KeptPromises.{no_fault_under, called_under, waited_for_under}
 use Rattle.meaning_runs.proofs.OwnBindings.{BindsVariable, BindsItsOwn}
+use Rattle.meaning_runs.proofs.PassedVariables.{passed_is_high}
 use Rattle.meaning_runs.proofs.TrackedBindings.{cancel_bound}
 
 -- by its number alone
@@ -40,6 +41,7 @@ bodies_are_kept p known below = record {
   called = called_under p known below;
   waited = waited_for_under p known below;
   binds = binds_its_own p;
+  passes_own = λ b t o n of reached is v among same. passed_is_high b t o n reached is v among same;
   starts = λ b t o v literal of reached h.
       let g = (starts_are_allowed b (well_used p below known.of_texts b of) of.is_body o.event
       (events_have_sources b t o reached) v literal h).0 in

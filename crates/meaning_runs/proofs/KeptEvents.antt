@@ -8,7 +8,7 @@ use Rattle.std.proofs.lemmas.Bool.{and_parts, eq-eqb}
 use Rattle.std.proofs.lemmas.Option.{none-some, same_Some}
 use Rattle.std.proofs.lemmas.List.Elements.{Contains-append_cases}
 use Rattle.meaning.specs.FunctionFacts.{VariableKind, cancel, group}
-use Rattle.meaning.specs.Mentions.{Row, Call, Role, elsewhere, as_key, exposed, pointed_to, found_nil, found_error, called, called_in_brackets, argument, returned, left, names_type, new_literal, parameter_pointer, Mention, BodyPlace, FieldLeft, Assigned, FieldMark, calls_field, writes_field, hands_over, hands_literal, renews, imports_all, Mark, mentions, of_fields, defers_literal, returns, opens, closes, Taker}
+use Rattle.meaning.specs.Mentions.{Row, Call, Role, elsewhere, as_key, exposed, pointed_to, found_nil, found_error, called, called_in_brackets, argument, returned, left, names_type, new_literal, parameter_pointer, Mention, BodyPlace, FieldLeft, Assigned, FieldMark, calls_field, writes_field, hands_over, hands_literal, renews, imports_all, Mark, mentions, of_fields, runs_literal, returns, opens, closes, Taker}
 use Rattle.meaning.specs.Tracked.{has_field, ObjectLeft, left_of_outer, left_of_new, variable_of, declared_by, row_obtains, LocalRole, parameter, receiver, variadic, result, in_block, Local, Placed}
 use Rattle.meaning.specs.Objects.{unaddressed, ObjectKind, new_object, outer_object, local_named}
 use Rattle.meaning.specs.Uses.{Seen, found, tracked_kind, is_cancel, is_own, row_binds, is_statement_place, is_deferred_place, Handed, Event, renew, keep, call_kept, defer_kept, give, give_field}
@@ -236,7 +236,7 @@ module _ (seen : Seen) (bodies : List BodyPlace) where
   of_a_mark (of_fields site (hands_literal taker at)) k h = absurd (contains_nil k h)
   of_a_mark (of_fields site (renews number)) k h = absurd (contains_nil k h)
   of_a_mark (of_fields site imports_all) k h = absurd (contains_nil k h)
-  of_a_mark (defers_literal site at) k h = absurd (contains_nil k h)
+  of_a_mark (runs_literal moment site at) k h = absurd (contains_nil k h)
   of_a_mark (returns at es) k h = absurd (contains_nil k h)
   of_a_mark (opens b) k h = absurd (contains_nil k h)
   of_a_mark closes k h = absurd (contains_nil k h)

@@ -3,24 +3,24 @@ use Rattle.std.proofs.Common.{◌≡◌, ℕ, Bool, true, false, inl, inr, List,
 use Rattle.std.specs.Prelude.{◌&&◌, if◌then◌else◌}
 use Rattle.std.proofs.lemmas.List.Elements.{Contains-append_cases}
 use Rattle.tree.specs.Syntax.{Expressions}
-use Rattle.meaning.specs.Mentions.{BodyPlace, Mark, mentions, defers_literal, returns, opens, closes, file_marks, marks_by, of_fields}
+use Rattle.meaning.specs.Mentions.{BodyPlace, Mark, mentions, runs_literal, returns, opens, closes, file_marks, marks_by, of_fields}
 use Rattle.meaning.specs.Tracked.{Placed, placed, outer, some_keep}
-use Rattle.meaning.specs.Uses.{Seen, Event, defer_literal, is_body}
-use Rattle.meaning.specs.BodyEvents.{mark_events, is_site, events_at, sites_of}
+use Rattle.meaning.specs.Uses.{Seen, Event, is_body}
+use Rattle.meaning.specs.BodyEvents.{mark_events, is_site, events_at, sites_of, opened_in}
 use Rattle.meaning_packages.proofs.BodyPlaces.{placed_only}
 use Rattle.meaning.proofs.Membership.{contains_here, contains_there}
 use Rattle.meaning_packages.specs.PathFaults.{block_of}
-use Rattle.meaning.specs.BodyEvents.{opened_in}
 use Rattle.meaning_runs.specs.RunLists.{is_return, ReturnsAreLast}
 use Rattle.meaning_runs.proofs.Places.{eqb_is}
 use Rattle.meaning_runs.proofs.LeftSides.{is_placed}
-use Rattle.meaning_runs.proofs.MentionEvents.{AreQuiet, none_given, one_fits, object_is_no_return, mentions_are_quiet}
+use Rattle.meaning_runs.proofs.MentionEvents.{AreQuiet, none_given, object_is_no_return, mentions_are_quiet}
 use Rattle.meaning_runs.proofs.KeptEvents.{field_events_are}
 use Rattle.meaning_runs.proofs.AskedSites.{asked_at, asked_statements}
 use Rattle.meaning_runs.proofs.SitesWithin.{MayFollow, ReturnsEnd}
 use Rattle.meaning_runs.proofs.BodyOffsets.{opens_one, are_sited}
 use Rattle.meaning_runs.proofs.LeavingLists.{IsLastReturn, quiet_before, body_lists_end}
 use Rattle.meaning_runs.proofs.EditionMarks.{among_all, returns_end}
+use Rattle.meaning_runs.proofs.SentEvents.{literal_event_fits}
 
 -- marks where they stand
 abbrev PlacedEnd : List Placed → Type 0
@@ -32,7 +32,7 @@ unfolding placed
 placed_end bodies [] h = tt
 placed_end bodies (mentions m ∷ ms) h = (λ q among. tt, placed_end bodies ms h.1)
 placed_end bodies (of_fields site m ∷ ms) h = (λ q among. tt, placed_end bodies ms h.1)
-placed_end bodies (defers_literal site at ∷ ms) h = (λ q among. tt, placed_end bodies ms h.1)
+placed_end bodies (runs_literal moment site at ∷ ms) h = (λ q among. tt, placed_end bodies ms h.1)
 placed_end bodies (returns at es ∷ ms) h =
     (λ q among. h.0 q.mark (is_placed bodies ms q among), placed_end bodies ms h.1)
 placed_end bodies (opens b ∷ ms) h = (λ q among. tt, placed_end (b ∷ bodies) ms h.1)
@@ -48,7 +48,8 @@ module _ (seen : Seen) (body : ℕ) where
   quiet_mark bodies (mentions m) h = mentions_are_quiet seen bodies m
   quiet_mark bodies (of_fields site m) h =
       λ e k. object_is_no_return e (field_events_are seen bodies site m e k)
-  quiet_mark bodies (defers_literal site at) h = one_fits (λ e. is_return e ≡ false) (defer_literal at) refl
+  quiet_mark bodies (runs_literal moment site at) h =
+      literal_event_fits (λ e. is_return e ≡ false) seen.known.edition moment at refl refl
   quiet_mark bodies (returns site es) h = absurd h
   quiet_mark bodies (opens b) h = none_given (λ e. is_return e ≡ false)
   quiet_mark bodies closes h = none_given (λ e. is_return e ≡ false)
@@ -106,9 +107,9 @@ module _ (seen : Seen) (body : ℕ) where
       by bodies (of_fields site x) here behind =
           quiet_before (mark_events seen bodies (of_fields site x)) (events_at seen body ps at)
           (quiet_mark bodies (of_fields site x) tt) rest
-      by bodies (defers_literal site l) here behind =
-          quiet_before (mark_events seen bodies (defers_literal site l)) (events_at seen body ps at)
-          (quiet_mark bodies (defers_literal site l) tt) rest
+      by bodies (runs_literal moment site l) here behind =
+          quiet_before (mark_events seen bodies (runs_literal moment site l)) (events_at seen body ps at)
+          (quiet_mark bodies (runs_literal moment site l) tt) rest
       by bodies (returns site es) here behind =
           subst (λ (l : List Event). IsLastReturn (mark_events seen bodies (returns site es) ++ l))
           (sym (none_at at ps λ q among. subst (λ (n : ℕ). is_site q.mark n ≡ false) (eqb_is site at here)
@@ -137,7 +138,7 @@ no_return_there : (marks : List Mark) (s : ℕ)
     → IsNoReturn m
 no_return_there marks s none (mentions m) among e = tt
 no_return_there marks s none (of_fields site m) among e = tt
-no_return_there marks s none (defers_literal site at) among e = tt
+no_return_there marks s none (runs_literal moment site at) among e = tt
 no_return_there marks s none (returns site es) among e =
     none es (subst (λ (n : ℕ). Contains marks (returns n es)) (eqb_is site s e) among)
 no_return_there marks s none (opens b) among e = tt

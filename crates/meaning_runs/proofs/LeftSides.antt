@@ -8,7 +8,7 @@ use Rattle.tree.specs.declared.span.Span.{Span}
 use Rattle.tree.specs.Syntax.{Identifier, Expression, expression_node, ExpressionForm, name_expression, basic_literal, function_literal, composite_literal, literal_value, key_value, parenthesized, selector_expression, index_expression, instance_expression, slice_expression, type_assertion, call_expression, star_expression, unary_expression, binary_expression, array_type, ellipsis_array_type, slice_type, map_type, channel_type, function_type, struct_type, interface_type, Expressions, no_expression, expression_and, OptionalExpression, missing_expression, present_expression, Signature, signature_of, Parameters, no_parameter, named_and, unnamed_and, name_alone_and, Fields, no_field, fields_and, embedded_and, element_and, method_and, Statement, statement_node, StatementForm, empty_statement, declaration_statement, labeled_statement, expression_statement, send_statement, increment_statement, decrement_statement, assignment, operator_assignment, define_statement, go_statement, defer_statement, return_statement, break_statement, continue_statement, goto_statement, fallthrough_statement, block_statement, if_statement, for_statement, range_assignment, range_definition, switch_statement, type_switch_statement, select_statement, Statements, no_statement, statement_and, OptionalStatement, missing_statement, present_statement, CaseClauses, no_case, case_and, CommunicationClauses, no_communication, communication_and, Declaration, declaration_of, Specs, no_spec, value_and, type_and, Block, Function, TopLevelDeclaration, function_declaration, general_declaration, ImportSpec, SourceFile}
 use Rattle.meaning.specs.Scopes.{is_blank, parameters_named, named_in_types}
 use Rattle.meaning.specs.OuterBlocks.{specs_of}
-use Rattle.meaning.specs.Mentions.{Named, bare, as_bare, as_named, as_bracketed, as_pointer, as_new_literal, select_from, embedded, defines, assigns, declares, Standing, ordinary, first_of_for, communication, Row, CallPlace, nowhere, as_statement, only_value, return_item, deferred, place_in, Call, call_of, is_none_left, LiteralUse, other_use, deferred_call, started_by, Role, elsewhere, as_key, called, called_in_brackets, argument, returned, left, names_type, new_literal, parameter_pointer, BodyPlace, Mark, mentions, defers_literal, returns, opens, closes, Spot, part_of, whole, mention, declaring, number_of, name_role, named_or, callee_or, addressed, argument_or, argument_at, new_literal_or, deferral, literal_body, in_body, parameter_type_or, value_spot, left_names, declared_elsewhere, guard_in_clause, row_of, expression_marks, form_marks, expressions_marks, optional_marks, arguments_marks, items_marks, lefts_marks, names_type_marks, signature_marks, parameters_marks, fields_marks, statement_marks, statement_form_marks, statements_marks, optional_statement_marks, cases_marks, communications_marks, declaration_marks, specs_marks, type_parameters_marks, receiver_marks, function_body, function_types_marks, function_marks, outer_specs_marks, top_level_marks, top_levels_marks, file_marks, exposed, addressed_within, bare_within, ranged_marks, found_nil, NilTest, nil_marks, nil_where, found_error, error_where, error_marks, row_in, first_row, guard_marks, behind_row, marks_by, pointed_to, under_go, of_fields, Assigned, callee_spot, argument_spot, argument_taker, receiver_given, field_called, field_written, given_to, literal_given_to, sent, rights_given, is_one, guard_renewed, communication_given, arguments_place, imports_all, is_dot, import_marks}
+use Rattle.meaning.specs.Mentions.{Named, bare, as_bare, as_named, as_bracketed, as_pointer, as_new_literal, select_from, embedded, defines, assigns, declares, Standing, ordinary, first_of_for, communication, Row, CallPlace, nowhere, as_statement, only_value, return_item, deferred, place_in, Call, call_of, is_none_left, LiteralUse, other_use, deferred_call, started_by, Role, elsewhere, as_key, called, called_in_brackets, argument, returned, left, names_type, new_literal, parameter_pointer, BodyPlace, Mark, mentions, runs_literal, returns, opens, closes, Spot, part_of, whole, mention, declaring, number_of, name_role, named_or, callee_or, addressed, argument_or, argument_at, new_literal_or, deferral, literal_body, in_body, parameter_type_or, value_spot, left_names, declared_elsewhere, guard_in_clause, row_of, expression_marks, form_marks, expressions_marks, optional_marks, arguments_marks, items_marks, lefts_marks, names_type_marks, signature_marks, parameters_marks, fields_marks, statement_marks, statement_form_marks, statements_marks, optional_statement_marks, cases_marks, communications_marks, declaration_marks, specs_marks, type_parameters_marks, receiver_marks, function_body, function_types_marks, function_marks, outer_specs_marks, top_level_marks, top_levels_marks, file_marks, exposed, addressed_within, bare_within, ranged_marks, found_nil, NilTest, nil_marks, nil_where, found_error, error_where, error_marks, row_in, first_row, guard_marks, behind_row, marks_by, pointed_to, under_go, of_fields, Assigned, callee_spot, argument_spot, argument_taker, receiver_given, field_called, field_written, given_to, literal_given_to, sent, rights_given, is_one, guard_renewed, communication_given, arguments_place, imports_all, is_dot, import_marks, at_return, in_goroutine, call_under_go}
 use Rattle.meaning.specs.Tracked.{field_left, other_left, left_name, left_of_name, left_of_expression, lefts_of_expressions, lefts_of, Placed, placed, outer}
 use Rattle.meaning.proofs.Membership.{contains_here, contains_there, contains_cases, contains_nil}
 use Rattle.tree.specs.declared.edition.Edition.{Edition}
@@ -35,7 +35,7 @@ Fits n declared parameter_pointer = Unit {0}
 abbrev pub Stands : Mark → Type 0
 Stands (mentions m) = Fits m.named m.declares m.role
 Stands (of_fields site m) = Unit {0}
-Stands (defers_literal site at) = Unit {0}
+Stands (runs_literal moment site at) = Unit {0}
 Stands (returns at es) = Unit {0}
 Stands (opens b) = Unit {0}
 Stands closes = Unit {0}
@@ -45,7 +45,7 @@ Stands closes = Unit {0}
 abbrev pub Inside : Mark → Type 0
 Inside (mentions m) = Fits m.named m.declares m.role
 Inside (of_fields site m) = Unit {0}
-Inside (defers_literal site at) = Unit {0}
+Inside (runs_literal moment site at) = Unit {0}
 Inside (returns at es) = Unit {0}
 Inside (opens b) = b.name ≡ None
 Inside closes = Unit {0}
@@ -53,7 +53,7 @@ Inside closes = Unit {0}
 stands : (m : Mark) → Inside m → Stands m
 stands (mentions m) h = h
 stands (of_fields site m) h = tt
-stands (defers_literal site at) h = tt
+stands (runs_literal moment site at) h = tt
 stands (returns at es) h = tt
 stands (opens b) h = tt
 stands closes h = tt
@@ -155,7 +155,8 @@ newly under_go site n h = h
 
 deferring : (used : LiteralUse) (site at : ℕ) → AllStand (deferral used site at)
 deferring other_use site at = none
-deferring deferred_call site at = only (defers_literal site at) tt
+deferring deferred_call site at = only (runs_literal at_return site at) tt
+deferring call_under_go site at = only (runs_literal in_goroutine site at) tt
 deferring (started_by n) site at = none
 
 within : (b : BodyPlace) {ms : List Mark} → b.name ≡ None → AllStand ms → AllStand (in_body b ms)
@@ -466,9 +467,9 @@ is_placed bodies (of_fields site m ∷ ms) p h = elim (contains_cases _ p (place
   | inl q ↦ subst (λ (x : Placed). Contains (of_fields site m ∷ ms) x.mark) q (contains_here (of_fields site m) ms)
   | inr r ↦ contains_there (of_fields site m) p.mark ms (is_placed bodies ms p r)
 ]
-is_placed bodies (defers_literal site at ∷ ms) p h = elim (contains_cases _ p (placed bodies ms) h) [
-  | inl q ↦ subst (λ (x : Placed). Contains (defers_literal site at ∷ ms) x.mark) q (contains_here (defers_literal site at) ms)
-  | inr r ↦ contains_there (defers_literal site at) p.mark ms (is_placed bodies ms p r)
+is_placed bodies (runs_literal moment site at ∷ ms) p h = elim (contains_cases _ p (placed bodies ms) h) [
+  | inl q ↦ subst (λ (x : Placed). Contains (runs_literal moment site at ∷ ms) x.mark) q (contains_here (runs_literal moment site at) ms)
+  | inr r ↦ contains_there (runs_literal moment site at) p.mark ms (is_placed bodies ms p r)
 ]
 is_placed bodies (returns at es ∷ ms) p h = elim (contains_cases _ p (placed bodies ms) h) [
   | inl q ↦ subst (λ (x : Placed). Contains (returns at es ∷ ms) x.mark) q (contains_here (returns at es) ms)

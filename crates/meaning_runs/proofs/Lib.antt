@@ -28,6 +28,7 @@ mod FieldsTold
 pub mod EventSources
 pub mod HandedEvents
 pub mod HandedNames
+pub mod SentEvents
 pub mod MentionEvents
 mod Bindings
 pub mod OwnVariables
@@ -84,7 +85,9 @@ mod GroupClasses
 mod MadeGroupsStand
 mod HolderSteps
 mod CaredGoesOn
+mod PassedVariables
 mod CaredEvents
+mod GoingCalls
 mod HeldWorlds
 mod GroupMakers
 mod KeptValues
@@ -92,8 +95,16 @@ mod CaredBindings
 mod CaredObjects
 mod CaredCalls
 mod CaredActs
+mod Takings
 mod CaredWorlds
+mod Starts
 mod QuietGroups
+mod FirstEdition
+mod GoneFunctions
+mod QuietWithoutGo
+mod BegunRoots
+mod SeenTo
+mod SettledReturns
 mod WellUsedBodies
 mod ExampleSteps
 mod GroupBodies
@@ -109,9 +120,12 @@ mod MadeGroupCalls
 mod MadeGroupActs
 mod MadeGroupStarts
 mod MadeGroupWorlds
+mod Followed
 mod Shown
 mod ShownCells
 mod ShownActs
 mod ShownSteps
 mod HiddenSteps
 mod ShownRuns
+mod SeenInAll
+mod SeenStays

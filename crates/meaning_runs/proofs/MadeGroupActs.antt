@@ -16,7 +16,7 @@ use Rattle.meaning_runs.proofs.Remembered.{Origins, Past, with_block, no_past, o
 use Rattle.meaning_runs.proofs.Holders.{IsKnown, IsSource, is_outside, is_made, was_lent, WasLent, IsHolder, AreHolders}
 use Rattle.meaning_runs.proofs.HolderSteps.{outside_is, obtaining_changes, ActsWell, acts_held}
 use Rattle.meaning_runs.proofs.GroupMakers.{is_maker_back}
-use Rattle.meaning_runs.proofs.MadeGroups.{IsWaitedForUnder, SavesWait, by_wait, by_literal, IsOver, MustWait, IsSettled, is_over, is_saved, is_above, is_live, IsSeenOver, MayAlso, AreSeenOver, Nothing, IsLive, IsActive, active_saved, active_live}
+use Rattle.meaning_runs.proofs.MadeGroups.{IsWaitedForUnder, SavesWait, by_wait, by_literal, IsOver, MustWait, IsSettled, is_over, is_saved, is_above, is_live, IsSeenOver, MayAlso, AreSeenOver, Nothing, IsLive, IsActive, active_saved, active_live, IsGone, is_gone}
 use Rattle.meaning_runs.proofs.StoreGrowth.{frame-nobody, outside-frame, no_change, calling_changes, waiting_changes, contexts_grow, block_grows}
 use Rattle.meaning_runs.proofs.MadeGroupsStand.{all_stand}
 use Rattle.meaning_runs.proofs.MadeGroupFrames.{not_lower}
@@ -67,6 +67,7 @@ settled_keeping : {o : Origins} {s : Store} {may must : ℕ → Type 0} {past : 
 settled_keeping kept given relies v a (is_over h) = is_over h
 settled_keeping kept given relies v a (is_saved x c w) = is_saved x c w
 settled_keeping kept given relies v a (is_above h) = is_above h
+settled_keeping kept given relies v a (is_gone h) = is_gone h
 settled_keeping kept given relies v a (is_live l) = is_live (live_keeping kept given relies v a l)
 
 active_keeping : {o : Origins} {s : Store} {past : Past} {f : Frame} (kept : List InObject) (given : List Value)
@@ -173,8 +174,10 @@ module _ (p : Program) (used : BodiesAreWellUsed p) (binds_own : BindsItsOwn p) 
 
   -- The end of the frame: what it was to wait for is over.
 
-  pub at_end : IsAtEnd f → (relies : Promises) (v : Variable) (a : ℕ) → IsSettled relies o s Nothing Nothing q f v a → IsOver s Nothing a
-  at_end ended relies v a (is_over h) = h
+  pub at_end : IsAtEnd f → (relies : Promises) (v : Variable) (a : ℕ) → IsSettled relies o s Nothing Nothing q f v a
+      → IsOver s Nothing a ⊎ IsGone o a
+  at_end ended relies v a (is_over h) = inl h
+  at_end ended relies v a (is_gone h) = inr h
   at_end ended relies v a (is_saved x c w) = absurd (contains_nil x (subst (λ (l : List Saved). Contains l x) ended.saved c))
   at_end ended relies v a (is_above h) = absurd h
   at_end ended relies v a (is_live l) = absurd (exits≢runs l.code (sym ended.stage ∙ l.stage))

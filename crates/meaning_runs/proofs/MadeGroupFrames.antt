@@ -11,7 +11,8 @@ use Rattle.meaning_runs.specs.Duties.{AreTakenUp}
 use Rattle.meaning_runs.proofs.WhoStarts.{IsOwnGroup}
 use Rattle.meaning_runs.proofs.Remembered.{Origins, Past}
 use Rattle.meaning_runs.proofs.Holders.{Grows, IsHolder}
-use Rattle.meaning_runs.proofs.MadeGroups.{HasNoFaultUnder, group_class_of, IsWaitedForUnder, SavesWait, IsOver, MustWait, IsLive, IsSettled, is_over, is_saved, is_above, is_live, IsActive, IsSeenOver, Nothing}
+use Rattle.meaning_runs.proofs.MadeGroups.{HasNoFaultUnder, group_class_of, IsWaitedForUnder, SavesWait, IsOver, MustWait, IsLive, IsSettled, is_over, is_saved, is_above, is_gone, is_live, IsActive, IsSeenOver, Nothing}
+use Rattle.meaning_runs.proofs.MadeGroupsStand.{gone_grows}
 use Rattle.meaning_runs.proofs.StoreGrowth.{same_frame, outside_grows}
 
 -- on these promises the frame owes it that the group of this variable ends: it made it, or is to wait for it
@@ -116,6 +117,7 @@ module _ (p : Program) (at : Maker) (o after_o : Origins) (s after : Store) (pla
         elim (keeps.over a place.1 (it.made a c) (omega arith) (inl c) h) [ inl x ↦ (v, own, is_over x) | inr x ↦ x.1 relies none ]
     made_now relies v a none c own (is_saved x i w) = (v, own, keeps.saved relies v a place.1 x (it.made a c) i w)
     made_now relies v a none c own (is_above h) = absurd h
+    made_now relies v a none c own (is_gone h) = (v, own, is_gone (gone_grows keeps.grows a h))
     made_now relies v a none c own (is_live h) = (v, own, keeps.lives relies v a place.1 (it.made a c) (of_made none own) h)
 
     waits_now : (relies : Promises) (v : Variable) (a m : ℕ) → IsWaitedForUnder p f.body relies v
@@ -130,6 +132,7 @@ module _ (p : Program) (at : Maker) (o after_o : Origins) (s after : Store) (pla
     ]
     waits_now relies v a m w lent e l (is_saved x i h) = keeps.saved relies v a m x e i h
     waits_now relies v a m w lent e l (is_above h) = absurd h
+    waits_now relies v a m w lent e l (is_gone h) = is_gone (gone_grows keeps.grows a h)
     waits_now relies v a m w lent e l (is_live h) = keeps.lives relies v a m e (of_wait w) h
 
     pub seen_goes : IsSeenOver p after_o after place may must (past_on q n) (frame_on f n)

@@ -6,20 +6,20 @@ use Rattle.std.proofs.lemmas.Option.{none-some, same_Some}
 use Rattle.meaning.specs.Code.{Code}
 use Rattle.meaning.specs.FunctionFacts.{group}
 use Rattle.meaning.specs.Tracked.{live}
-use Rattle.meaning.specs.Uses.{Event, try, wait, defer_wait, defer_literal}
+use Rattle.meaning.specs.Uses.{Event, try, wait, defer_wait, defer_literal, Work, go_literal, go}
 use Rattle.meaning.specs.BodyEvents.{Variable}
 use Rattle.meaning.specs.Classes.{Promises, GroupClass, in_state, awaited, change_group, at_rest}
 use Rattle.meaning.proofs.Membership.{contains_here, contains_there}
 use Rattle.meaning_runs.specs.Bodies.{Program, Body, variables_in, IsLiteralIn}
 use Rattle.meaning_runs.specs.World.{nobody, frame_at, Place, Store, ending, HasNoMember, MayEndWait, waiting_for, Passing, Closure, Saved, saved_literal, saved_wait, runs, Frame, held_group}
 use Rattle.meaning_runs.specs.Steps.{DoesNext}
-use Rattle.meaning_runs.specs.Duties.{AreTakenUp}
+use Rattle.meaning_runs.specs.Duties.{AreTakenUp, IsWaitingFor}
 use Rattle.meaning_runs.proofs.WhoStarts.{BodiesAreWellUsed}
 use Rattle.meaning_runs.proofs.Remembered.{Origins, Past, behind}
 use Rattle.meaning_runs.proofs.Holders.{Grows, IsHolder}
 use Rattle.meaning_runs.proofs.HolderSteps.{captured_is_frozen, held_in}
 use Rattle.meaning_runs.proofs.OwnNumbers.{wait_is_captured}
-use Rattle.meaning_runs.proofs.MadeGroups.{group_class_of, SavesWait, by_wait, by_literal, IsOver, IsLive, is_over, is_saved, is_live, IsSeenOver, Nothing}
+use Rattle.meaning_runs.proofs.MadeGroups.{group_class_of, SavesWait, by_wait, by_literal, IsOver, IsLive, is_over, is_saved, is_live, IsSeenOver, Nothing, IsGone, is_gone}
 use Rattle.meaning_runs.proofs.StoreGrowth.{ChangesContexts, no_change, waiting_changes, contexts_grow}
 use Rattle.meaning_runs.proofs.GroupClasses.{work_live, work_awaited, work_unmade, rest_awaited, rest_unmade, wait_unmade, named_otherwise}
 use Rattle.meaning_runs.proofs.MadeGroupFrames.{owed_taken_up, owed_there}
@@ -159,6 +159,63 @@ module _ {p : Program} {o : Origins} {s : Store} {place : Place} {q : Past} {f :
       lent_active = λ relies passing y a none w c g made. no_call f.waiting d.none_waits passing w;
       was_unmade = λ relies u k e. wait_unmade (v == u) k e;
     }
+
+  -- a goroutine is started, in a store with the same members
+  module _ {after_o : Origins} {after : Store} (grows : Grows nobody o after_o s after)
+      (members : (a : ℕ) → HasNoMember s a → HasNoMember after a)
+      (makers : (a : ℕ) (r : Place) → after.maker a ≡ frame_at r → s.maker a ≡ frame_at r) where
+    over_going : (a m : ℕ) → s.maker a ≡ frame_at (place.0, m) → m ≤ place.1 → IsOver s Nothing a → IsOver after Nothing a
+    over_going = over_stays it seen grows Nothing members (λ a m e l x. x)
+
+    -- by an event that does nothing to groups
+    pub seen_going : {work : Work} {rest : Code Event} (d : DoesNext f (go work) rest)
+        → ((relies : Promises) (v : ℕ) (k : GroupClass) → change_group relies v (go work) k ≡ k)
+        → IsSeenOver p after_o after place Nothing Nothing (behind q d.comes_to) (record f { stage = runs rest })
+    seen_going d plain = seen_behind it seen grows d.comes_to Nothing Nothing f.waiting f.saved record {
+      made_before = λ a m e l. makers a (place.0, m) e;
+      keeps_saved = λ x c. c;
+      over = λ a m e l owes h. inl (over_going a m e l h);
+      lives = λ relies v a owed l. is_live (live_still it seen grows d.comes_to Nothing Nothing f.waiting f.saved relies v a
+          (plain relies v.number (in_state live)) l);
+      awaits = λ relies v a up among kind class held.
+          awaited_still it seen grows d.comes_to Nothing Nothing f.waiting f.saved (λ x c. c) relies v a up among kind
+          (sym (plain relies v.number (group_class_of relies v q.events)) ∙ class) held;
+      lent_active = λ relies passing y a none w c g made. no_call f.waiting d.none_waits passing w;
+      was_unmade = λ relies v k e. sym (plain relies v k) ∙ e;
+    }
+
+    -- with a literal, which is known to wait for what is credited to it
+    pub seen_going_literal : {at : ℕ} {rest : Code Event} (b : Body) (d : DoesNext f (go (go_literal at)) rest)
+        → IsLiteralIn f.body b
+        → b.place.at ≡ at
+        → ((u : Variable) (a : ℕ) → IsWaitingFor b u → held_group s f u.number ≡ Some a → IsGone after_o a)
+        → IsSeenOver p after_o after place Nothing Nothing (behind q d.comes_to) (record f { stage = runs rest })
+    seen_going_literal {at} b d is_in is_at waits = seen_behind it seen grows d.comes_to Nothing Nothing f.waiting f.saved record {
+      made_before = λ a m e l. makers a (place.0, m) e;
+      keeps_saved = λ x c. c;
+      over = λ a m e l owes h. inl (over_going a m e l h);
+      lives = λ relies u a owed l.
+          let there = owed_there owed in
+          settles relies u a (owed_taken_up owed) there.0 there.1 l (cases_Bool (relies.credits at u.number));
+      awaits = λ relies u a up among kind class held.
+          awaited_still it seen grows d.comes_to Nothing Nothing f.waiting f.saved (λ x c. c) relies u a up among kind
+          (rest_awaited (relies.credits at u.number) (group_class_of relies u q.events) class) held;
+      lent_active = λ relies passing y a none w c g made. no_call f.waiting d.none_waits passing w;
+      was_unmade = λ relies u k e. rest_unmade (relies.credits at u) k e;
+    }
+      where
+        settles : (relies : Promises) (u : Variable) (a : ℕ) → AreTakenUp p f.body relies
+            → Contains (variables_in f.body) u
+            → u.kind ≡ group
+            → IsLive relies s q f u a
+            → (relies.credits at u.number ≡ true) ⊎ (relies.credits at u.number ≡ false)
+            → Settled it seen grows d.comes_to Nothing Nothing f.waiting f.saved relies u a
+        settles relies u a up among kind l (inl credited) =
+            let w = up.waits u b among kind is_in (ap (λ n. relies.credits n u.number) is_at ∙ credited) in
+            is_gone (waits w.0 a w.1 (ap (held_group s f) w.2 ∙ l.is_held))
+        settles relies u a up among kind l (inr none) =
+            is_live (live_still it seen grows d.comes_to Nothing Nothing f.waiting f.saved relies u a
+            (ap (λ c. cond c (at_rest (in_state live)) (in_state live)) none) l)
 
   -- a deferred literal is saved, which is known to wait for what is credited to it
   module _ (used : BodiesAreWellUsed p) {at : ℕ} {rest : Code Event} (b : Body) (d : DoesNext f (defer_literal at) rest)

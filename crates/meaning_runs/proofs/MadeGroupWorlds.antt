@@ -1,29 +1,31 @@
 -- Each step of a program keeps what is said of the groups that frames made, in all of the world. So it is in every world
 -- of a run, and at a return each group that the frame made is over.
-use Rattle.std.proofs.Common.{◌≡◌, ℕ, ◌<◌, ◌⊎◌, inl, inr, List, [], ◌∷◌, ◌++◌, length, Option, Some, None, Contains, sym, ap, ◌∙◌, subst, arith}
+use Rattle.std.proofs.Common.{refl, ◌≡◌, ℕ, ◌<◌, ◌⊎◌, inl, inr, List, [], ◌∷◌, ◌++◌, length, Option, Some, None, Contains, sym, ap, ◌∙◌, subst, arith}
 use Rattle.std.proofs.lemmas.Bool.{cases_eq}
 use Rattle.std.proofs.lemmas.Option.{none-some}
 use Rattle.meaning.specs.Code.{Code}
-use Rattle.meaning.specs.Uses.{Event}
+use Rattle.meaning.specs.Uses.{Event, Work}
 use Rattle.meaning.proofs.Membership.{contains_here, contains_nil}
 use Rattle.meaning_runs.specs.Bodies.{Program, Body}
-use Rattle.meaning_runs.specs.World.{Value, cancel_function, Maker, nobody, outside, frame_at, Place, Store, put_at, with_new, calling, ending, with_group, HasNoMember, with_member, with_cells, Lent, Passing, Saved, saved_pass, Frame, World, new_frame, nothing_around}
-use Rattle.meaning_runs.specs.Steps.{ComesToCall, at_once, saved_before, StartsWork, ChangesMembers, starts_member, starts_stranger, starts_outside, starts_beside, leaves_group, Surrounds, starts, evaluates_literal, starts_literal, makes_cells, makes_one, ends_one, calls_any, makes_outside, joins_outside, Step, of_goroutine, of_members, of_environment, at_code}
+use Rattle.meaning_runs.specs.World.{Value, cancel_function, Maker, nobody, outside, frame_at, Place, Store, put_at, with_new, calling, ending, with_group, HasNoMember, with_member, with_cells, Lent, Passing, Saved, saved_pass, Frame, World, new_frame, nothing_around, to_call_too, held as held_value}
+use Rattle.meaning_runs.specs.Steps.{ComesToCall, at_once, saved_before, StartsWork, ChangesMembers, starts_member, starts_stranger, starts_outside, starts_beside, leaves_group, Surrounds, starts, evaluates_literal, starts_literal, makes_cells, makes_one, ends_one, calls_any, makes_outside, joins_outside, Step, of_goroutine, of_members, of_go, of_environment, at_code, SetsOff, sending, declared_too, StartsGoroutine, starts_call, starts_function, starts_foreign, starts_its_literal}
 use Rattle.meaning_runs.specs.Runs.{Run, no_step, step_more}
 use Rattle.meaning_runs.proofs.Contexts.{put_at-same, put_at-other}
 use Rattle.meaning_runs.proofs.OwnBindings.{BindsItsOwn}
 use Rattle.meaning_runs.proofs.WhoStarts.{Startable, BodiesAreWellUsed}
-use Rattle.meaning_runs.proofs.Remembered.{Root, Origins, Past, Memory, no_root, with_block, with_root, value_given, no_past, first_past, later_pasts, occurrence_of, origins_after, pasts_after, pasts_behind, memory_of_members, memory_of_environment, memory_after, memory_of}
+use Rattle.meaning_runs.proofs.Remembered.{Root, Origins, Past, Memory, no_root, with_block, with_root, no_past, first_past, later_pasts, occurrence_of, origins_after, pasts_after, pasts_behind, memory_of_members, memory_of_environment, memory_after, memory_of, behind, root_of, with_begun, memory_of_go}
 use Rattle.meaning_runs.proofs.Holders.{Grows, IsSource, IsHolder, AreHolders, IsHeld}
 use Rattle.meaning_runs.proofs.HolderFrames.{reached}
 use Rattle.meaning_runs.proofs.HolderSteps.{outside_is, acts_held}
 use Rattle.meaning_runs.proofs.HeldWorlds.{other_goroutine, running_held, lent_source, run_held}
 use Rattle.meaning_runs.proofs.GroupMakers.{is_maker_back, outside_maker_back}
 use Rattle.meaning_runs.proofs.MadeGroups.{MustWait, IsSeenOver, MayAlso, AreSeenOver, Nothing}
-use Rattle.meaning_runs.proofs.StoreGrowth.{frame-nobody, outside-frame, ChangesContexts, new_changes, calling_changes, ending_changes, contexts_grow, member_grows, block_grows, group_grows, grows_then}
+use Rattle.meaning_runs.proofs.StoreGrowth.{frame-nobody, outside-frame, ChangesContexts, new_changes, calling_changes, ending_changes, contexts_grow, member_grows, member_leaves, block_grows, group_grows, grows_then, begun_grows, calls_grow}
 use Rattle.meaning_runs.proofs.MadeGroupsStand.{over_grows, all_stand}
-use Rattle.meaning_runs.proofs.MadeGroupCalls.{seen_new, seen_lending_out}
+use Rattle.meaning_runs.proofs.MadeGroupCalls.{seen_new, seen_lending_out, waits_given}
 use Rattle.meaning_runs.proofs.MadeGroupActs.{WaitsAreKept, acts_seen}
+use Rattle.meaning_runs.proofs.MadeGroupUses.{seen_going, seen_going_literal}
+use Rattle.meaning_runs.proofs.GoingCalls.{to_call_more, declared_more}
 use Rattle.meaning_runs.proofs.MadeGroupStarts.{joined_none, left_none, startable_source, seen_starting, rest_while_started, others_while_started}
 
 -- so it is of all goroutines
@@ -55,7 +57,8 @@ module _ (p : Program) (o : Origins) (s : Store) where
       → AreSeenOver p o s k Nothing Nothing (put_at stacks g stack k) (put_at pasts g past k)
   one_stack stacks pasts g stack past others its k = by_number (cases_eq k g)
     where
-      by_number : (k ≡ g) ⊎ (k ≡ g → ⊥) → AreSeenOver p o s k Nothing Nothing (put_at stacks g stack k) (put_at pasts g past k)
+      by_number : (k ≡ g) ⊎ (k ≡ g → ⊥)
+          → AreSeenOver p o s k Nothing Nothing (put_at stacks g stack k) (put_at pasts g past k)
       by_number (inl same) =
           subst (λ i. AreSeenOver p o s i Nothing Nothing (put_at stacks g stack i) (put_at pasts g past i)) (sym same)
           (subst (λ l. AreSeenOver p o s g Nothing Nothing l (put_at pasts g past g)) (sym (put_at-same stacks g stack))
@@ -149,7 +152,8 @@ module _ (p : Program) (used : BodiesAreWellUsed p) (binds_own : BindsItsOwn p) 
 
     -- Work that a function without a body starts, in a group that it was lent
 
-    outside_seen : {f : Frame} {others : List Frame} {passing : Passing} {y : Lent} {group : ℕ} (g h : ℕ) → w.stacks g ≡ f ∷ others
+    outside_seen : {f : Frame} {others : List Frame} {passing : Passing} {y : Lent} {group : ℕ} (g h : ℕ)
+        → w.stacks g ≡ f ∷ others
         → ComesToCall f passing
         → Contains passing.lent y
         → y.group ≡ Some group
@@ -158,7 +162,7 @@ module _ (p : Program) (used : BodiesAreWellUsed p) (binds_own : BindsItsOwn p) 
     outside_seen {f} {others} {passing} {y} {group} g h running comes lent is k = by_number (cases_eq k g)
       where
         grows : Grows nobody m.origins (with_root m.origins h no_root) w.store (with_member w.store h (Some group))
-        grows = member_grows nobody m.origins w.store (put_at m.origins.root h no_root) h (Some group)
+        grows = member_grows nobody m.origins w.store no_root h (Some group)
 
         it : IsHolder p m.origins w.store (g, length others) (first_past (m.pasts g)) f
             × AreHolders p m.origins w.store g others (later_pasts (m.pasts g))
@@ -168,13 +172,16 @@ module _ (p : Program) (used : BodiesAreWellUsed p) (binds_own : BindsItsOwn p) 
             × AreSeenOver p m.origins w.store g (MayAlso f.body (first_past (m.pasts g)).lent Nothing) (MustWait f.body (first_past (m.pasts g)).lent) others (later_pasts (m.pasts g))
         now = seen_of g f others running
 
-        others_none : (a : ℕ) → (a ≡ group → ⊥) → HasNoMember w.store a → HasNoMember (with_member w.store h (Some group)) a
+        others_none : (a : ℕ) → (a ≡ group → ⊥) → HasNoMember w.store a
+            → HasNoMember (with_member w.store h (Some group)) a
         others_none a ne none = joined_none w.store h group a ne none
 
         source : IsSource w.store (g, length others) f.body (first_past (m.pasts g)).lent group ⊎ (w.store.member g ≡ Some group)
-        source = inl (lent_source p m.origins w.store (g, length others) (first_past (m.pasts g)) f it.0 passing y group comes lent is)
+        source =
+            inl (lent_source p m.origins w.store (g, length others) (first_past (m.pasts g)) f it.0 passing y group comes lent is)
 
-        its_frame : ComesToCall f passing → IsSeenOver p (with_root m.origins h no_root) (with_member w.store h (Some group)) (g, length others) Nothing Nothing (first_past (m.pasts g)) f
+        its_frame : ComesToCall f passing
+            → IsSeenOver p (with_root m.origins h no_root) (with_member w.store h (Some group)) (g, length others) Nothing Nothing (first_past (m.pasts g)) f
         its_frame (at_once way at_once_now) =
             seen_lending_out it.0 now.0 way.waits grows Nothing Nothing f.waiting (λ r x. x) (λ a i e l. e)
             (λ a i e none over. over_grows grows (g, i) Nothing Nothing a e (others_none a (λ same. none (y, lent, is ∙ ap Some (sym same)))) (λ x. x) over)
@@ -182,7 +189,8 @@ module _ (p : Program) (used : BodiesAreWellUsed p) (binds_own : BindsItsOwn p) 
             let none = it.0.saved_lend_none passing (subst (λ (l : List Saved). Contains l (saved_pass passing)) (sym r.saved) (contains_here (saved_pass passing) left)) in
             absurd (contains_nil y (subst (λ (l : List Lent). Contains l y) none lent))
 
-        by_number : (k ≡ g) ⊎ (k ≡ g → ⊥) → AreSeenOver p (with_root m.origins h no_root) (with_member w.store h (Some group)) k Nothing Nothing (w.stacks k) (m.pasts k)
+        by_number : (k ≡ g) ⊎ (k ≡ g → ⊥)
+            → AreSeenOver p (with_root m.origins h no_root) (with_member w.store h (Some group)) k Nothing Nothing (w.stacks k) (m.pasts k)
         by_number (inl same) =
             subst (λ i. AreSeenOver p (with_root m.origins h no_root) (with_member w.store h (Some group)) i Nothing Nothing (w.stacks i) (m.pasts i)) (sym same)
             (subst (λ l. AreSeenOver p (with_root m.origins h no_root) (with_member w.store h (Some group)) g Nothing Nothing l (m.pasts g)) (sym running)
@@ -193,32 +201,132 @@ module _ (p : Program) (used : BodiesAreWellUsed p) (binds_own : BindsItsOwn p) 
             others_while_started p m.origins (with_root m.origins h no_root) w.store (with_member w.store h (Some group)) g f others (first_past (m.pasts g)) (later_pasts (m.pasts g)) group grows it.0 source others_none (λ a r e. e)
             k (w.stacks k) (m.pasts k) ne (held.holders k) (seen k)
 
-    members_seen : (next : World) (changes : ChangesMembers p w next) → AreAllSeenOver p next (memory_of_members changes m)
+    members_seen : (next : World) (changes : ChangesMembers p w next)
+        → AreAllSeenOver p next (memory_of_members changes m)
     members_seen next (starts_member {f = f} {others = others} {rest = rest} {group = group} g h b values groups work free is_in is_at foreign) =
         let it = (holders_of g f others work.is_running).0 in
         let s = with_member w.store h (Some group) in
-        let root : Root = record { literal = Some b; given = value_given s b values f.newest } in
+        let root : Root = root_of s b values groups f.newest in
         let o = with_root m.origins h root in
         let grows = grows_then nobody m.origins o (with_block o s.cell_count) w.store s (with_cells s values groups)
-        (member_grows nobody m.origins w.store (put_at m.origins.root h root) h (Some group)) (block_grows nobody o s values groups) in
+        (member_grows nobody m.origins w.store root h (Some group)) (block_grows nobody o s values groups) in
         one_stack p (with_block o s.cell_count) (with_cells s values groups) (put_at w.stacks g (at_code f rest ∷ others)) (put_at m.pasts g (pasts_behind (m.pasts g) work.does_next.comes_to))
         h (new_frame w.store b f.newest ∷ []) (no_past o s b values groups f.newest ∷ [])
         (λ k ne. started_seen g h work (with_block o s.cell_count) (with_cells s values groups) grows (λ a other_one none. joined_none w.store h group a other_one none) (λ a r e. e) k)
         (seen_new s values groups b f.newest it.cells_in p o (h, 0) (λ v a x e u c i. outside_is w.store (groups u) c (foreign.foreign u) i), tt)
     members_seen next (starts_stranger {f = f} {others = others} {rest = rest} {group = group} g h work free) =
-        started_seen g h work (with_root m.origins h no_root) (with_member w.store h (Some group)) (member_grows nobody m.origins w.store (put_at m.origins.root h no_root) h (Some group))
+        started_seen g h work (with_root m.origins h no_root) (with_member w.store h (Some group)) (member_grows nobody m.origins w.store no_root h (Some group))
         (λ a other_one none. joined_none w.store h group a other_one none) (λ a r e. e)
     members_seen next (starts_outside {f = f} {others = others} {passing = passing} {y = y} {group = group} g h running call lent is free) =
         outside_seen g h running call.comes_to_it lent is
     members_seen next (starts_beside {group = a} g h member empty free) = λ k.
         stands p nobody m.origins (with_root m.origins h no_root) w.store (with_member w.store h (Some a)) k (w.stacks k) (m.pasts k)
-        (member_grows nobody m.origins w.store (put_at m.origins.root h no_root) h (Some a)) (λ i. frame-nobody (k, i))
+        (member_grows nobody m.origins w.store no_root h (Some a)) (λ i. frame-nobody (k, i))
         (λ b i e none. joined_none w.store h a b (λ same. none g (member ∙ ap Some (sym same))) none) (λ b i e. e) (held.holders k) (seen k)
     members_seen next (leaves_group {group = group} g member none) =
         λ k. stands p nobody m.origins m.origins w.store (with_member w.store g None) k (w.stacks k) (m.pasts k)
-        (member_grows nobody m.origins w.store m.origins.root g None) (λ i. frame-nobody (k, i)) (λ a i e. left_none w.store g a) (λ a i e. e) (held.holders k) (seen k)
+        (member_leaves nobody m.origins w.store g None) (λ i. frame-nobody (k, i)) (λ a i e. left_none w.store g a) (λ a i e. e) (held.holders k) (seen k)
 
-    environment_seen : (next : World) (surrounds : Surrounds p w next) → AreAllSeenOver p next (memory_of_environment surrounds m)
+    -- A `go` statement starts a goroutine
+
+    module _ {f : Frame} {others : List Frame} {rest : Code Event} {work : Work} (g : ℕ)
+        (sets : SetsOff w g f others work rest) (after_o : Origins) (after : Store)
+        (grows : Grows nobody m.origins after_o w.store after)
+        (members : (a : ℕ) → HasNoMember w.store a → HasNoMember after a)
+        (makers : (a : ℕ) (r : Place) → after.maker a ≡ frame_at r → w.store.maker a ≡ frame_at r)
+        (its : IsSeenOver p after_o after (g, length others) Nothing Nothing
+        (behind (first_past (m.pasts g)) sets.does_next.comes_to) (at_code f rest))
+      where
+        going_seen : (k : ℕ)
+            → AreSeenOver p after_o after k Nothing Nothing (put_at w.stacks g (at_code f rest ∷ others) k)
+            (put_at m.pasts g (pasts_behind (m.pasts g) sets.does_next.comes_to) k)
+        going_seen =
+            let below = (holders_of g f others sets.is_running).1 in
+            let now = (seen_of g f others sets.is_running).1 in
+            let q = first_past (m.pasts g) in
+            one_stack p after_o after w.stacks m.pasts g (at_code f rest ∷ others)
+            (pasts_behind (m.pasts g) sets.does_next.comes_to)
+            (λ k ne. stands p nobody m.origins after_o w.store after k (w.stacks k) (m.pasts k) grows (λ i. frame-nobody (k, i))
+            (λ a i e none. members a none) (λ a i e. makers a (k, i) e) (held.holders k) (seen k)) (
+              its,
+              all_stand p nobody m.origins after_o w.store after g (length others) (MayAlso f.body q.lent Nothing)
+                  (MayAlso f.body q.lent Nothing) (MustWait f.body q.lent) (MustWait f.body q.lent) others
+                  (later_pasts (m.pasts g)) record {
+                    grows = grows;
+                    elsewhere = λ i l. frame-nobody (g, i);
+                    no_member = λ a i e l un none. members a none;
+                    still_may = λ a i e l x. x;
+                    made_before = λ a i e l. makers a (g, i) e;
+                  } (λ a i e l x. inl x) (omega arith) below now,
+            )
+
+    goings_seen : (next : World) (going : StartsGoroutine p w next) → AreAllSeenOver p next (memory_of_go going m)
+    goings_seen next (starts_call {f = f} {others = others} {v = v} g sets) =
+        let it = (holders_of g f others sets.is_running).0 in
+        let now = (seen_of g f others sets.is_running).0 in
+        let calls = to_call_too (held_value w.store f v) m.origins.to_call in
+        let grows = calls_grow nobody m.origins w.store calls (to_call_more (held_value w.store f v) m.origins.to_call) in
+        going_seen g sets (record (m.origins) { to_call = calls }) w.store grows (λ a none. none) (λ a r e. e)
+        (seen_going it now grows (λ a none. none) (λ a r e. e) sets.does_next (λ relies u k. refl))
+    goings_seen next (starts_foreign {f = f} {others = others} {callee = callee} {xs = xs} g sets no_body) =
+        let it = (holders_of g f others sets.is_running).0 in
+        let now = (seen_of g f others sets.is_running).0 in
+        let given = (sending w.store f callee xs).given in
+        let calls = declared_too p callee given m.origins.to_call in
+        let grows = calls_grow nobody m.origins w.store calls (declared_more p callee given m.origins.to_call) in
+        going_seen g sets (record (m.origins) { to_call = calls }) w.store grows (λ a none. none) (λ a r e. e)
+        (seen_going it now grows (λ a none. none) (λ a r e. e) sets.does_next (λ relies u k. refl))
+    goings_seen next (starts_function {f = f} {others = others} {rest = rest} {callee = callee} {xs = xs} g h b values groups
+        sets free is fits) =
+        let it = (holders_of g f others sets.is_running).0 in
+        let now = (seen_of g f others sets.is_running).0 in
+        let root = root_of w.store b values groups nothing_around in
+        let begun = with_begun m.origins root in
+        let after_o = with_block begun w.store.cell_count in
+        let after = with_cells w.store values groups in
+        let grows = grows_then nobody m.origins begun after_o w.store w.store after (begun_grows nobody m.origins w.store root)
+        (block_grows nobody begun w.store values groups) in
+        one_stack p after_o after (put_at w.stacks g (at_code f rest ∷ others))
+        (put_at m.pasts g (pasts_behind (m.pasts g) sets.does_next.comes_to)) h (new_frame w.store b nothing_around ∷ [])
+        (no_past begun w.store b values groups nothing_around ∷ [])
+        (λ k ne. going_seen g sets after_o after grows (λ a none. none) (λ a r e. e)
+        (seen_going it now grows (λ a none. none) (λ a r e. e) sets.does_next (λ relies u k. refl)) k) (
+          seen_new w.store values groups b nothing_around (λ v k e. absurd (none-some k e)) p begun (h, 0)
+              (λ v a x e. absurd (none-some a e)),
+          tt,
+        )
+    goings_seen next (starts_its_literal {f = f} {others = others} {rest = rest} {at = at} g h b values groups sets free is_in
+        is_at foreign) =
+        let it = (holders_of g f others sets.is_running).0 in
+        let now = (seen_of g f others sets.is_running).0 in
+        let root = root_of w.store b values groups f.newest in
+        let begun = with_begun m.origins root in
+        let after_o = with_block begun w.store.cell_count in
+        let after = with_cells w.store values groups in
+        let grows = grows_then nobody m.origins begun after_o w.store w.store after (begun_grows nobody m.origins w.store root)
+        (block_grows nobody begun w.store values groups) in
+        one_stack p after_o after (put_at w.stacks g (at_code f rest ∷ others))
+        (put_at m.pasts g (pasts_behind (m.pasts g) sets.does_next.comes_to)) h (new_frame w.store b f.newest ∷ [])
+        (no_past begun w.store b values groups f.newest ∷ [])
+        (λ k ne. going_seen g sets after_o after grows (λ a none. none) (λ a r e. e)
+        (seen_going_literal it now grows (λ a none. none) (λ a r e. e) b sets.does_next is_in is_at
+        (λ u a waits e. record {
+          root = root;
+          has_gone = refl;
+          is_begun = contains_here root m.origins.begun;
+          literal = b;
+          variable = u;
+          is_body = refl;
+          waits_for = waits;
+          is_lent = waits_given w.store values groups b f.newest u a waits e;
+        })) k) (
+          seen_new w.store values groups b f.newest it.cells_in p begun (h, 0)
+              (λ v a x e u c i. outside_is w.store (groups u) c (foreign.foreign u) i),
+          tt,
+        )
+
+    environment_seen : (next : World) (surrounds : Surrounds p w next)
+        → AreAllSeenOver p next (memory_of_environment surrounds m)
     environment_seen next (starts g b values groups free of outermost foreign) =
         begun_seen g b values groups nothing_around (λ v k e. absurd (none-some k e)) (λ u c i. outside_is w.store (groups u) c (foreign.foreign u) i)
     environment_seen next (evaluates_literal g f b among escapes) = seen
@@ -227,7 +335,8 @@ module _ (p : Program) (used : BodiesAreWellUsed p) (binds_own : BindsItsOwn p) 
     environment_seen next (makes_cells values groups foreign) = λ k.
         stands p nobody m.origins (with_block m.origins w.store.cell_count) w.store (with_cells w.store values groups) k (w.stacks k) (m.pasts k)
         (block_grows nobody m.origins w.store values groups) (λ i. frame-nobody (k, i)) (λ a i e none. none) (λ a i e. e) (held.holders k) (seen k)
-    environment_seen next (makes_one parent earlier) = contexts_seen (with_new w.store parent) (new_changes w.store parent)
+    environment_seen next (makes_one parent earlier) =
+        contexts_seen (with_new w.store parent) (new_changes w.store parent)
     environment_seen next (ends_one a is) = contexts_seen (ending w.store (Some a)) (ending_changes w.store (Some a))
     environment_seen next (calls_any a is) =
         contexts_seen (calling w.store (cancel_function a)) (calling_changes w.store (cancel_function a))
@@ -237,7 +346,7 @@ module _ (p : Program) (used : BodiesAreWellUsed p) (binds_own : BindsItsOwn p) 
         (λ a i e. outside_maker_back w.store context a (k, i) e) (held.holders k) (seen k)
     environment_seen next (joins_outside g a free made) = λ k.
         stands p nobody m.origins (with_root m.origins g no_root) w.store (with_member w.store g (Some a)) k (w.stacks k) (m.pasts k)
-        (member_grows nobody m.origins w.store (put_at m.origins.root g no_root) g (Some a)) (λ i. frame-nobody (k, i))
+        (member_grows nobody m.origins w.store no_root g (Some a)) (λ i. frame-nobody (k, i))
         (λ b i e none. joined_none w.store g a b (λ same. outside-frame (k, i) (sym made ∙ ap w.store.maker (sym same) ∙ e)) none) (λ b i e. e) (held.holders k) (seen k)
 
     pub step_seen : (next : World) (step : Step p w next) → AreAllSeenOver p next (memory_after step m)
@@ -253,10 +362,11 @@ module _ (p : Program) (used : BodiesAreWellUsed p) (binds_own : BindsItsOwn p) 
         (λ a i e. is_maker_back p w.store (g, length others) f after frames acts a (k, i) e (λ same. ne (ap (λ (r : Place). r.0) same))) (held.holders k) (seen k))
         (acts_seen p used binds_own kept m.origins w.store g f others q qs held.known it.0 it.1 now.0 now.1 after frames acts)
     step_seen next (of_members changes) = members_seen next changes
+    step_seen next (of_go going) = goings_seen next going
     step_seen next (of_environment surrounds) = environment_seen next surrounds
 
   -- in every world of a run
-  pub run_seen : (w : World) (run : Run p w) → AreAllSeenOver p w (memory_of run)
-  run_seen w no_step = λ g. tt
-  run_seen w (step_more {w = before} run step) =
-      step_seen before (memory_of run) (run_held p used before run) (run_seen before run) w step
+  pub run_seen : (least : ℕ) (w : World) (run : Run p w) → AreAllSeenOver p w (memory_of least run)
+  run_seen least w no_step = λ g. tt
+  run_seen least w (step_more {w = before} run step) =
+      step_seen before (memory_of least run) (run_held p used least before run) (run_seen least before run) w step

@@ -1,6 +1,6 @@
 -- What becomes of each group that a frame made: it is over (it has no member, its context has ended, and no frame above
 -- can start work in it), or a Wait for it is saved, or the frame just above waits for it, or the newest cell of one of
--- the frame's variables holds it and the variable is live. A frame of a deferred literal has the same duty for a
+-- the frame's variables holds it and the variable is live; or a goroutine was started that is known to wait for it. A frame of a deferred literal has the same duty for a
 -- captured group that it is known to wait for.
 use Rattle.std.specs.Prelude.{◌≡◌, ℕ, ◌<◌, ◌⊎◌, true, List, [], ◌∷◌, length, Option, Some, None, Contains}
 use Rattle.meaning.specs.Code.{Occurrence, Code}
@@ -15,7 +15,7 @@ use Rattle.meaning_runs.specs.World.{Place, outside, frame_at, Store, HasNoMembe
 use Rattle.meaning_runs.specs.Duties.{AreTakenUp, IsWaitingFor}
 pub use Rattle.meaning_runs.proofs.GroupPaths.{group_class_of}
 use Rattle.meaning_runs.proofs.WhoStarts.{IsOwnGroup}
-use Rattle.meaning_runs.proofs.Remembered.{Origins, Past}
+use Rattle.meaning_runs.proofs.Remembered.{Root, Origins, Past}
 use Rattle.meaning_runs.proofs.Holders.{WasLent}
 
 -- What is relied on
@@ -53,6 +53,17 @@ pub record IsOver (s : Store) (may : ℕ → Type 0) (a : ℕ) : Type 0 where
   pub has_ended : (context : ℕ) → s.group_context a ≡ Some context → Contains s.ended context
   pub is_untouched : may a → ⊥
 
+-- a `go` statement started a goroutine, with a literal that is known to wait for it
+pub record IsGone (o : Origins) (a : ℕ) : Type 0 where
+  pub root : Root
+  pub has_gone : o.has_gone ≡ true
+  pub is_begun : Contains o.begun root
+  pub literal : Body
+  pub variable : Variable
+  pub is_body : root.body ≡ Some literal
+  pub waits_for : IsWaitingFor literal variable
+  pub is_lent : root.lent variable.number ≡ Some a
+
 -- the frame is known to wait for it
 abbrev pub MustWait : Body → (ℕ → Option ℕ) → ℕ → Type 0
 MustWait b lent a = (v : Variable) × IsWaitingFor b v × (lent v.number ≡ Some a)
@@ -74,6 +85,7 @@ pub data IsSettled
   is_over : IsOver s may a → IsSettled relies o s may must past f v a
   is_saved : (x : Saved) → Contains f.saved x → SavesWait o s a x → IsSettled relies o s may must past f v a
   is_above : must a → IsSettled relies o s may must past f v a
+  is_gone : IsGone o a → IsSettled relies o s may must past f v a
   is_live : IsLive relies s past f v a → IsSettled relies o s may must past f v a
 
 -- work may be started in it by the frame, or its Wait is saved

@@ -7,7 +7,7 @@ use Rattle.meaning_runs.specs.World.{Maker, frame_at, Place, Store, HasNoMember,
 use Rattle.meaning_runs.proofs.Remembered.{Origins, Past}
 use Rattle.meaning_runs.proofs.Holders.{Grows, IsHolder, AreHolders}
 use Rattle.meaning_runs.proofs.HolderFrames.{still_holds}
-use Rattle.meaning_runs.proofs.MadeGroups.{SavesWait, by_wait, by_literal, IsOver, MustWait, IsLive, IsSettled, is_over, is_saved, is_above, is_live, IsActive, active_saved, active_live, IsSeenOver, MayAlso, AreSeenOver}
+use Rattle.meaning_runs.proofs.MadeGroups.{SavesWait, by_wait, by_literal, IsOver, MustWait, IsLive, IsSettled, is_over, is_saved, is_above, IsGone, is_gone, is_live, IsActive, active_saved, active_live, IsSeenOver, MayAlso, AreSeenOver}
 use Rattle.meaning_runs.proofs.StoreGrowth.{frame-nobody, outside_grows, counts_more}
 
 module _ {at : Maker} {o after_o : Origins} {s after : Store} (grows : Grows at o after_o s after) where
@@ -16,6 +16,18 @@ module _ {at : Maker} {o after_o : Origins} {s after : Store} (grows : Grows at 
   saves_grow a x (by_literal c v k waits e l frozen h) =
       by_literal c v k waits e (counts_more at o after_o s after grows k l) (grows.same_frozen k l ∙ frozen)
       (grows.same_holds k v.number l (inl frozen) ∙ h)
+
+  pub gone_grows : (a : ℕ) → IsGone o a → IsGone after_o a
+  gone_grows a h = record {
+    root = h.root;
+    has_gone = grows.still_gone h.has_gone;
+    is_begun = grows.more_begun h.root h.is_begun;
+    literal = h.literal;
+    variable = h.variable;
+    is_body = h.is_body;
+    waits_for = h.waits_for;
+    is_lent = h.is_lent;
+  }
 
   -- a group that is over stays so, where it gets no member and no more frames can start work in it
   pub over_grows : (place : Place) (may may_now : ℕ → Type 0) (a : ℕ) → s.maker a ≡ frame_at place
@@ -47,17 +59,17 @@ pub record LeavesAlone
   pub still_may : (a m : ℕ) → s.maker a ≡ frame_at (g, m) → m < height → may_now a → may a
   pub made_before : (a m : ℕ) → after.maker a ≡ frame_at (g, m) → m < height → s.maker a ≡ frame_at (g, m)
 
--- what the frame just above was to wait for it still is, or that is over
-abbrev pub StillMust : Store → Store → ℕ → ℕ → (ℕ → Type 0) → (ℕ → Type 0) → (ℕ → Type 0) → Type 0
-StillMust s after g height may_now must must_now = (a m : ℕ) → s.maker a ≡ frame_at (g, m)
+-- what the frame just above was to wait for it still is, or that is over, or a goroutine waits for it
+abbrev pub StillMust : Origins → Store → Store → ℕ → ℕ → (ℕ → Type 0) → (ℕ → Type 0) → (ℕ → Type 0) → Type 0
+StillMust after_o s after g height may_now must must_now = (a m : ℕ) → s.maker a ≡ frame_at (g, m)
     → m < height
     → must a
-    → must_now a ⊎ IsOver after may_now a
+    → must_now a ⊎ (IsOver after may_now a ⊎ IsGone after_o a)
 
 module _ (p : Program) (at : Maker) (o after_o : Origins) (s after : Store) (g height : ℕ) where
   module _ (may may_now must must_now : ℕ → Type 0)
       (alone : LeavesAlone at o after_o s after g height may may_now)
-      (still : StillMust s after g height may_now must must_now)
+      (still : StillMust after_o s after g height may_now must must_now)
       (n : ℕ) (q : Past) (f : Frame) (low : n < height) (it : IsHolder p o s (g, n) q f) where
     same : (v : ℕ) → held_group after f v ≡ held_group s f v
     same v = still_holds at o after_o s after alone.grows p (g, n) q f (alone.elsewhere n low) it v
@@ -68,7 +80,11 @@ module _ (p : Program) (at : Maker) (o after_o : Origins) (s after : Store) (g h
     settled_stands relies v a m e l (is_over h) =
         is_over (over_grows alone.grows (g, m) may may_now a e (alone.no_member a m e l h.is_untouched) (alone.still_may a m e l) h)
     settled_stands relies v a m e l (is_saved x c w) = is_saved x c (saves_grow alone.grows a x w)
-    settled_stands relies v a m e l (is_above h) = elim (still a m e l h) [ inl y ↦ is_above y | inr y ↦ is_over y ]
+    settled_stands relies v a m e l (is_above h) = elim (still a m e l h) [
+      | inl y ↦ is_above y
+      | inr y ↦ elim y [ inl x ↦ is_over x | inr x ↦ is_gone x ]
+    ]
+    settled_stands relies v a m e l (is_gone h) = is_gone (gone_grows alone.grows a h)
     settled_stands relies v a m e l (is_live h) = is_live (live_grows alone.grows relies q f v a (same v.number) h)
 
     active_stands : (relies : Promises) (v : Variable) (a : ℕ) → IsActive relies o s q f v a → IsActive relies after_o after q f v a
@@ -94,7 +110,7 @@ module _ (p : Program) (at : Maker) (o after_o : Origins) (s after : Store) (g h
   -- all of a stack, from some height down
   pub all_stand : (may may_now must must_now : ℕ → Type 0) (fs : List Frame) (qs : List Past)
       → LeavesAlone at o after_o s after g height may may_now
-      → StillMust s after g height may_now must must_now
+      → StillMust after_o s after g height may_now must must_now
       → length fs ≤ height
       → AreHolders p o s g fs qs
       → AreSeenOver p o s g may must fs qs

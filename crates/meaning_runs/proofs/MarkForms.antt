@@ -8,9 +8,9 @@ use Rattle.tree.specs.declared.span.Span.{Span}
 use Rattle.tree.specs.Syntax.{Identifier, Expression, expression_node, ExpressionForm, name_expression, basic_literal, function_literal, composite_literal, literal_value, key_value, parenthesized, selector_expression, index_expression, instance_expression, slice_expression, type_assertion, call_expression, star_expression, unary_expression, binary_expression, array_type, ellipsis_array_type, slice_type, map_type, channel_type, function_type, struct_type, interface_type, Expressions, no_expression, expression_and, OptionalExpression, missing_expression, present_expression, Signature, signature_of, Parameters, no_parameter, named_and, unnamed_and, name_alone_and, Fields, no_field, fields_and, embedded_and, element_and, method_and, Statement, statement_node, StatementForm, empty_statement, declaration_statement, labeled_statement, expression_statement, send_statement, increment_statement, decrement_statement, assignment, operator_assignment, define_statement, go_statement, defer_statement, return_statement, break_statement, continue_statement, goto_statement, fallthrough_statement, block_statement, if_statement, for_statement, range_assignment, range_definition, switch_statement, type_switch_statement, select_statement, Statements, no_statement, statement_and, OptionalStatement, missing_statement, present_statement, CaseClauses, no_case, case_and, CommunicationClauses, no_communication, communication_and, Declaration, declaration_of, Specs, no_spec, value_and, type_and, Block, Function, TopLevelDeclaration, function_declaration, general_declaration, ImportSpec, SourceFile}
 use Rattle.meaning.specs.OuterBlocks.{specs_of}
 use Rattle.meaning.specs.Scopes.{is_blank, parameters_named, named_in_types}
-use Rattle.meaning.specs.Mentions.{Named, as_bare, as_named, as_bracketed, as_pointer, as_new_literal, select_from, defines, assigns, declares, Standing, ordinary, first_of_for, communication, Row, CallPlace, nowhere, as_statement, only_value, return_item, deferred, place_in, Call, is_one, is_none_left, is_start, LiteralUse, other_use, deferred_call, started_by, argument_use, callee_use, Role, elsewhere, called, called_in_brackets, argument, left, names_type, new_literal, parameter_pointer, Mention, BodyPlace, Mark, mentions, defers_literal, returns, Spot, part_of, whole, mention, name_role, named_or, callee_or, addressed, argument_or, argument_at, new_literal_or, deferral, literal_body, in_body, parameter_type_or, value_spot, left_names, declared_elsewhere, guard_in_clause, row_of, expression_marks, form_marks, expressions_marks, optional_marks, arguments_marks, items_marks, lefts_marks, names_type_marks, signature_marks, parameters_marks, fields_marks, statement_marks, statement_form_marks, statements_marks, optional_statement_marks, cases_marks, communications_marks, declaration_marks, specs_marks, type_parameters_marks, receiver_marks, function_body, function_types_marks, function_marks, outer_specs_marks, top_level_marks, top_levels_marks, file_marks, exposed, addressed_within, bare_within, ranged_marks, NilTest, nil_marks, nil_where, error_where, error_marks, row_in, first_row, guard_marks, behind_row, under_go, pointed_to, of_fields, Assigned, FieldMark, callee_spot, argument_spot, argument_taker, literal_taker, receiver_given, field_called, field_written, given_to, literal_given_to, sent, rights_given, guard_renewed, communication_given, call_of, as_key, arguments_place, imports_all, is_dot, import_marks}
+use Rattle.meaning.specs.Mentions.{Named, as_bare, as_named, as_bracketed, as_pointer, as_new_literal, select_from, defines, assigns, declares, Standing, ordinary, first_of_for, communication, Row, CallPlace, nowhere, as_statement, only_value, return_item, deferred, place_in, Call, is_one, is_none_left, is_start, LiteralUse, other_use, deferred_call, started_by, argument_use, callee_use, Role, elsewhere, called, called_in_brackets, argument, left, names_type, new_literal, parameter_pointer, Mention, BodyPlace, Mark, mentions, runs_literal, returns, Spot, part_of, whole, mention, name_role, named_or, callee_or, addressed, argument_or, argument_at, new_literal_or, deferral, literal_body, in_body, parameter_type_or, value_spot, left_names, declared_elsewhere, guard_in_clause, row_of, expression_marks, form_marks, expressions_marks, optional_marks, arguments_marks, items_marks, lefts_marks, names_type_marks, signature_marks, parameters_marks, fields_marks, statement_marks, statement_form_marks, statements_marks, optional_statement_marks, cases_marks, communications_marks, declaration_marks, specs_marks, type_parameters_marks, receiver_marks, function_body, function_types_marks, function_marks, outer_specs_marks, top_level_marks, top_levels_marks, file_marks, exposed, addressed_within, bare_within, ranged_marks, NilTest, nil_marks, nil_where, error_where, error_marks, row_in, first_row, guard_marks, behind_row, under_go, pointed_to, of_fields, Assigned, FieldMark, callee_spot, argument_spot, argument_taker, literal_taker, receiver_given, field_called, field_written, given_to, literal_given_to, sent, rights_given, guard_renewed, communication_given, call_of, as_key, arguments_place, imports_all, is_dot, import_marks, Moment, at_return, in_goroutine, call_under_go}
 use Rattle.meaning_runs.proofs.FieldMarks.{FieldsOnly, no_more, and_one, fields_both, Any, any, called_only, given_only, literal_only, receiver_only, rights_only, sent_only, communication_only, guard_only, written_only}
-use Rattle.meaning.specs.Uses.{literal_at, only_argument, started_literal, is_deferred_use}
+use Rattle.meaning.specs.Uses.{literal_at, only_argument, started_literal, is_run}
 
 -- The forms
 
@@ -21,6 +21,7 @@ is_call role = false
 abbrev pub is_started : LiteralUse → Bool
 is_started other_use = false
 is_started deferred_call = false
+is_started call_under_go = false
 is_started (started_by n) = true
 
 -- the literal that is the only argument of the call, by its offset
@@ -30,6 +31,11 @@ literal_of c = started_literal (only_argument c)
 -- a call that stands in no body stands nowhere as a whole
 abbrev pub IsPlaced : Bool → Call → Type 0
 IsPlaced is_inside c = is_inside ≡ false → c.place ≡ nowhere
+
+-- how a literal stands that runs then
+abbrev pub use_at : Moment → LiteralUse
+use_at at_return = deferred_call
+use_at in_goroutine = call_under_go
 
 -- marks that stand in a body, or in none
 pub data AreMade : Bool → List Mark → Type 0 where
@@ -53,13 +59,13 @@ pub data AreMade : Bool → List Mark → Type 0 where
   a_return : (at : ℕ) (es : Expressions) → AreMade true (returns at es ∷ [])
   a_body : {i : Bool} {ms : List Mark} (b : BodyPlace)
       → is_started b.literal ≡ false
-      → (i ≡ false → is_deferred_use b.literal ≡ false)
+      → (i ≡ false → is_run b.literal ≡ false)
       → AreMade true ms
       → AreMade i (in_body b ms)
-  a_deferred_body : {ms : List Mark} (b : BodyPlace) (site : ℕ)
-      → b.literal ≡ deferred_call
+  a_run_body : {ms : List Mark} (moment : Moment) (b : BodyPlace) (site : ℕ)
+      → b.literal ≡ use_at moment
       → AreMade true ms
-      → AreMade true (in_body b ms ++ defers_literal site b.at ∷ [])
+      → AreMade true (in_body b ms ++ runs_literal moment site b.at ∷ [])
 
 -- Parts
 
@@ -162,7 +168,7 @@ has_literal (expression_and e es) = is_literal e || has_literal es
 -- outside all bodies the spot is no place, and it is that of the only argument for no literal
 pub record Fits (i : Bool) (spot : Spot) (is_one_literal : Bool) : Type 0 where
   pub place : i ≡ false → spot.place ≡ nowhere
-  pub no_deferral : i ≡ false → is_deferred_use spot.literal ≡ false
+  pub no_deferral : i ≡ false → is_run spot.literal ≡ false
   pub alone : (is_started spot.literal && is_one_literal) ≡ false
 
 pub free : (i : Bool) (site : ℕ) (b : Bool) → Fits i (part_of site) b
@@ -212,7 +218,7 @@ callee_fits : (i : Bool) (spot : Spot) (b : Bool)
     → Fits i (callee_spot spot) b
 callee_fits i spot b none = record {
   place = λ o. refl;
-  no_deferral = λ o. ap (λ p. is_deferred_use (callee_use p)) (none o);
+  no_deferral = λ o. ap (λ p. is_run (callee_use p)) (none o);
   alone = by spot.place;
 }
   where
@@ -231,18 +237,18 @@ used_so : (b : Bool) (n : Named) (use_of : LiteralUse → Bool)
 used_so true n use_of h k = h
 used_so false n use_of h k = k
 
--- an argument is not called under `defer`
-pub argument_is_not_deferred : (o : Option Call) → is_deferred_use (argument_use o) ≡ false
-argument_is_not_deferred None = refl
-argument_is_not_deferred (Some c) =
-    used_so (is_start c.callee && (is_one c.arguments && not c.has_ellipsis)) c.callee is_deferred_use refl refl
+-- an argument is called neither under `defer` nor under `go`
+pub argument_is_not_run : (o : Option Call) → is_run (argument_use o) ≡ false
+argument_is_not_run None = refl
+argument_is_not_run (Some c) =
+    used_so (is_start c.callee && (is_one c.arguments && not c.has_ellipsis)) c.callee is_run refl refl
 
 argument_fits : (i : Bool) (place : CallPlace) (o : Option Call) (site : ℕ) (b : Bool)
     → (is_started (argument_use o) && b) ≡ false
     → Fits i (argument_spot place o site) b
 argument_fits i place o site b alone = record {
   place = λ p. refl;
-  no_deferral = λ p. argument_is_not_deferred o;
+  no_deferral = λ p. argument_is_not_run o;
   alone = alone;
 }
 
@@ -269,16 +275,20 @@ no_deferral_behind (Some c) site at =
 -- a literal, with what stands behind it
 literal_made : (i : Bool) (used : LiteralUse) (site : ℕ) (b : BodyPlace) {ms : List Mark} (given : List Mark)
     → b.literal ≡ used
-    → (i ≡ false → is_deferred_use used ≡ false)
+    → (i ≡ false → is_run used ≡ false)
     → (is_started used && true) ≡ false
     → AreMade true ms
     → FieldsOnly Any site given
     → AreMade i (in_body b ms ++ (deferral used site b.at ++ given))
 literal_made i other_use site b given is none alone h g =
-    both (a_body b (ap is_started is) (λ o. ap is_deferred_use is) h) (fields given g)
+    both (a_body b (ap is_started is) (λ o. ap is_run is) h) (fields given g)
 literal_made true deferred_call site b {ms} given is none alone h g =
-    both_parts (a_deferred_body b site is h) (fields given g)
-    (sym (append_assoc (in_body b ms) (defers_literal site b.at ∷ []) given))
+    both_parts (a_run_body at_return b site is h) (fields given g)
+    (sym (append_assoc (in_body b ms) (runs_literal at_return site b.at ∷ []) given))
+literal_made true call_under_go site b {ms} given is none alone h g =
+    both_parts (a_run_body in_goroutine b site is h) (fields given g)
+    (sym (append_assoc (in_body b ms) (runs_literal in_goroutine site b.at ∷ []) given))
+literal_made false call_under_go site b given is none alone h g = let bad : true ≡ false = none refl in absurd (cc)
 literal_made false deferred_call site b given is none alone h g = let bad : true ≡ false = none refl in absurd (cc)
 literal_made i (started_by n) site b given is none alone h g = let bad : true ≡ false = alone in absurd (cc)
 

@@ -6,13 +6,13 @@ use Rattle.std.proofs.lemmas.Bool.{false≢true}
 use Rattle.std.proofs.lemmas.List.Elements.{Contains-append_cases, Contains-append_left, Contains-append_right}
 use Rattle.std.proofs.lemmas.Option.{none-some, same_Some}
 use Rattle.tree.specs.Syntax.{Expressions, SourceFile}
-use Rattle.meaning.specs.Mentions.{nowhere, Call, LiteralUse, deferred_call, argument_use, called, Mention, BodyPlace, Mark, mentions, defers_literal, returns, opens, closes, mention, in_body, file_marks, marks_by, of_fields, FieldMark}
+use Rattle.meaning.specs.Mentions.{nowhere, Call, LiteralUse, argument_use, called, Mention, BodyPlace, Mark, mentions, runs_literal, returns, opens, closes, mention, in_body, file_marks, marks_by, of_fields, FieldMark, Moment, at_return, in_goroutine}
 use Rattle.meaning.specs.Tracked.{Placed, placed, outer}
-use Rattle.meaning.specs.Uses.{is_deferred_use}
+use Rattle.meaning.specs.Uses.{is_run}
 use Rattle.meaning.specs.BodyEvents.{opened_by, opened_in}
 use Rattle.meaning.proofs.Membership.{contains_nil, contains_here, contains_there, contains_cases}
 use Rattle.meaning_runs.proofs.BodyOffsetsWithin.{Splits, placed_nil, split_both, split_body, body_placed}
-use Rattle.meaning_runs.proofs.MarkForms.{is_call, is_started, literal_of, argument_is_not_deferred, AreMade, no_mark, both_parts, a_mention, a_call, a_call_with, a_return, a_body, a_deferred_body, a_field}
+use Rattle.meaning_runs.proofs.MarkForms.{is_call, is_started, literal_of, argument_is_not_run, AreMade, no_mark, both_parts, a_mention, a_call, a_call_with, a_return, a_body, a_run_body, a_field, use_at}
 use Rattle.tree.specs.declared.edition.Edition.{Edition}
 use Rattle.meaning_runs.proofs.FieldMarks.{FieldsOnly, no_more, and_one, Any}
 use Rattle.meaning_runs.proofs.EditionMarks.{file_made}
@@ -43,13 +43,13 @@ pub record IsLed (marks : List Placed) (around : List BodyPlace) (b : BodyPlace)
 -- the mark with these bodies around it opens the body, which is the innermost of them
 pub record IsOpened (marks : List Placed) (bodies : List BodyPlace) (b : BodyPlace) : Type 0 where
   pub stands_first : bodies ≡ b ∷ outer bodies
-  pub not_deferred : outer bodies ≡ [] → is_deferred_use b.literal ≡ false
+  pub not_run : outer bodies ≡ [] → is_run b.literal ≡ false
   pub led : is_started b.literal ≡ true → IsLed marks (outer bodies) b
 
 abbrev pub IsBeside : List Placed → List BodyPlace → Mark → Type 0
 IsBeside marks bodies (mentions m) = (c : Call) → m.role ≡ called c → IsCallee marks bodies m c
 IsBeside marks bodies (of_fields site m) = Unit {0}
-IsBeside marks bodies (defers_literal site at) = OpensLiteral marks bodies at deferred_call
+IsBeside marks bodies (runs_literal moment site at) = OpensLiteral marks bodies at (use_at moment)
 IsBeside marks bodies (returns at es) = Unit {0}
 IsBeside marks bodies (opens b) = IsOpened marks bodies b
 IsBeside marks bodies closes = Unit {0}
@@ -86,11 +86,11 @@ beside_among ps qs bodies (mentions m) among h = λ c e. let r = h c e in record
   literal = λ at q. opens_among ps qs bodies at (argument_use (Some c)) among (r.literal at q);
 }
 beside_among ps qs bodies (of_fields site m) among h = tt
-beside_among ps qs bodies (defers_literal site at) among h = opens_among ps qs bodies at deferred_call among h
+beside_among ps qs bodies (runs_literal moment site at) among h = opens_among ps qs bodies at (use_at moment) among h
 beside_among ps qs bodies (returns at es) among h = tt
 beside_among ps qs bodies (opens b) among h = record {
   stands_first = h.stands_first;
-  not_deferred = h.not_deferred;
+  not_run = h.not_run;
   led = λ q. let r = h.led q in record {
     site = r.site;
     call = r.call;
@@ -101,6 +101,10 @@ beside_among ps qs bodies (opens b) among h = record {
   };
 }
 beside_among ps qs bodies closes among h = tt
+
+unstarted : (moment : Moment) → is_started (use_at moment) ≡ false
+unstarted at_return = refl
+unstarted in_goroutine = refl
 
 -- Each form splits
 
@@ -119,10 +123,10 @@ return_placed : (bodies : List BodyPlace) (n : ℕ) (es : Expressions) (ms : Lis
 unfolding placed
 return_placed bodies n es ms = refl
 
-deferral_placed : (bodies : List BodyPlace) (n at : ℕ) (ms : List Mark)
-    → placed bodies (defers_literal n at ∷ ms) ≡ record { mark = defers_literal n at; bodies = bodies } ∷ placed bodies ms
+deferral_placed : (bodies : List BodyPlace) (moment : Moment) (n at : ℕ) (ms : List Mark)
+    → placed bodies (runs_literal moment n at ∷ ms) ≡ record { mark = runs_literal moment n at; bodies = bodies } ∷ placed bodies ms
 unfolding placed
-deferral_placed bodies n at ms = refl
+deferral_placed bodies moment n at ms = refl
 
 first_splits : (bodies : List BodyPlace) (m : Mark) (p : Placed) (ms : List Mark)
     → ((ns : List Mark) → placed bodies (m ∷ ns) ≡ p ∷ placed bodies ns)
@@ -165,11 +169,11 @@ splits ms (a_return at es) bodies =
     first_splits bodies (returns at es) record { mark = returns at es; bodies = bodies } [] (return_placed bodies at es)
     (none_splits bodies)
 splits ms (a_body {ms = ns} b none later h) bodies = split_body b bodies ns (splits ns h (b ∷ bodies))
-splits ms (a_deferred_body {ms = ns} b site is h) bodies =
-    split_both bodies (in_body b ns) (defers_literal site b.at ∷ [])
+splits ms (a_run_body {ms = ns} moment b site is h) bodies =
+    split_both bodies (in_body b ns) (runs_literal moment site b.at ∷ [])
     (split_body b bodies ns (splits ns h (b ∷ bodies)))
-    (first_splits bodies (defers_literal site b.at) record { mark = defers_literal site b.at; bodies = bodies } []
-    (deferral_placed bodies site b.at) (none_splits bodies))
+    (first_splits bodies (runs_literal moment site b.at) record { mark = runs_literal moment site b.at; bodies = bodies } []
+    (deferral_placed bodies moment site b.at) (none_splits bodies))
 
 -- Places among the marks
 
@@ -311,7 +315,7 @@ beside ms (a_call_with {ms = ns} {fs = fs} site c b is used unnamed at h k) bodi
     (elim (Contains-append_cases body tail p (subst (λ (l : List Placed). Contains l p) whole there)) [
       | inl l ↦ body_beside b bodies ns split (body ++ tail) (λ q m. Contains-append_left body tail q m) record {
         stands_first = refl;
-        not_deferred = λ q. ap is_deferred_use used ∙ argument_is_not_deferred (Some c);
+        not_run = λ q. ap is_run used ∙ argument_is_not_run (Some c);
         led = λ q. record {
           site = site;
           call = c;
@@ -342,24 +346,24 @@ beside ms (a_return at es) bodies tie p there =
 beside ms (a_body {ms = ns} b none later h) bodies tie p there =
     body_beside b bodies ns (splits ns h (b ∷ bodies)) (placed bodies (in_body b ns)) (λ q l. l) record {
       stands_first = refl;
-      not_deferred = λ q. later (tie q);
+      not_run = λ q. later (tie q);
       led = λ q. absurd (not_both (is_started b.literal) none q);
     } (beside ns h (b ∷ bodies) (λ q. absurd (not_empty b bodies q))) p there
-beside ms (a_deferred_body {ms = ns} b site is h) bodies tie p there =
+beside ms (a_run_body {ms = ns} moment b site is h) bodies tie p there =
     let body = placed bodies (in_body b ns) in
-    let last = placed bodies (defers_literal site b.at ∷ []) in
+    let last = placed bodies (runs_literal moment site b.at ∷ []) in
     let split = splits ns h (b ∷ bodies) in
-    let only : Placed = record { mark = defers_literal site b.at; bodies = bodies } in
-    let whole : placed bodies (in_body b ns ++ defers_literal site b.at ∷ []) ≡ body ++ last =
-    split_body b bodies ns split (defers_literal site b.at ∷ []) in
+    let only : Placed = record { mark = runs_literal moment site b.at; bodies = bodies } in
+    let whole : placed bodies (in_body b ns ++ runs_literal moment site b.at ∷ []) ≡ body ++ last =
+    split_body b bodies ns split (runs_literal moment site b.at ∷ []) in
     subst (λ (l : List Placed). IsBeside l p.bodies p.mark) (sym whole)
     (elim (Contains-append_cases body last p (subst (λ (l : List Placed). Contains l p) whole there)) [
       | inl l ↦ body_beside b bodies ns split (body ++ last) (λ q m. Contains-append_left body last q m) record {
         stands_first = refl;
-        not_deferred = λ q. absurd (false≢true (sym (tie q)));
-        led = λ q. absurd (not_both _ (ap is_started is) q);
+        not_run = λ q. absurd (false≢true (sym (tie q)));
+        led = λ q. absurd (not_both _ (ap is_started is ∙ unstarted moment) q);
       } (beside ns h (b ∷ bodies) (λ q. absurd (not_empty b bodies q))) p l
-      | inr r ↦ elim (one_first only p last (placed bodies []) (deferral_placed bodies site b.at []) r) [
+      | inr r ↦ elim (one_first only p last (placed bodies []) (deferral_placed bodies moment site b.at []) r) [
         | inl e ↦ subst (λ (q : Placed). IsBeside (body ++ last) q.bodies q.mark) e (record {
           body = b;
           is_there = Contains-append_left body last (opening b bodies ns split) (is_opening b bodies ns split);
@@ -462,12 +466,12 @@ begun ms (a_call_with {ms = ns} {fs = fs} site c b is used unnamed at h k) bodie
 begun ms (a_return at es) bodies = one_begun bodies (returns at es) _ (return_placed bodies at es [])
 begun ms (a_body {ms = ns} b none later h) bodies =
     body_begun b bodies ns (splits ns h (b ∷ bodies)) (begun ns h (b ∷ bodies))
-begun ms (a_deferred_body {ms = ns} b site is h) bodies =
+begun ms (a_run_body {ms = ns} moment b site is h) bodies =
     let split = splits ns h (b ∷ bodies) in
-    let last = defers_literal site b.at ∷ [] in
+    let last = runs_literal moment site b.at ∷ [] in
     both_begun bodies (placed bodies (in_body b ns)) (placed bodies last) _ (split_body b bodies ns split last)
     (body_begun b bodies ns split (begun ns h (b ∷ bodies)))
-    (one_begun bodies (defers_literal site b.at) (placed bodies last) (deferral_placed bodies site b.at []))
+    (one_begun bodies (runs_literal moment site b.at) (placed bodies last) (deferral_placed bodies moment site b.at []))
 
 -- A file
 

@@ -1,21 +1,22 @@
 -- The events of a mention: what holds of each call, pass, loan, start, try and wait holds of all that a mention gives
 -- which binds nothing. A local is passed on in the body that declares it alone. No mention gives a return or a literal
 -- under `defer`.
-use Rattle.std.proofs.Common.{◌≡◌, ℕ, ◌⊎◌, Bool, true, false, inl, inr, List, [], ◌∷◌, Option, Some, None, Contains, refl, sym, subst, ◌∙◌, ◌++◌}
+use Rattle.std.proofs.Common.{◌≡◌, ℕ, ◌⊎◌, Bool, true, false, inl, inr, List, [], ◌∷◌, Option, Some, None, Contains, refl, sym, ap, subst, ◌∙◌, ◌++◌}
 use Rattle.std.specs.Prelude.{◌&&◌, ◌||◌, if◌then◌else◌, codes, map}
 use Rattle.std.specs.List.{list_all}
 use Rattle.std.specs.Str.{bytes_eq}
 use Rattle.meaning.specs.FunctionFacts.{CancelType, cancel_type, group_type, VariableKind, cancel, group}
-use Rattle.meaning.specs.Mentions.{BodyPlace, Row, Call, Role, elsewhere, as_key, called, called_in_brackets, argument, returned, left, names_type, new_literal, parameter_pointer, Mention, exposed, found_nil, found_error, mentions, pointed_to, Mark}
+use Rattle.meaning.specs.Mentions.{BodyPlace, Row, Call, Role, elsewhere, as_key, called, called_in_brackets, argument, returned, left, names_type, new_literal, parameter_pointer, Mention, exposed, found_nil, found_error, mentions, pointed_to, Mark, Moment, at_return, in_goroutine}
 use Rattle.meaning.specs.Tracked.{Known, variable_of, LocalRole, parameter, receiver, variadic, result, in_block, Local, is_universe}
-use Rattle.meaning.specs.Uses.{Seen, found, kind_of, tracked_kind, Event, other, obtain, clear, call, defer_call, pass, defer_pass, lend, start, try, wait, defer_wait, make, defer_literal, return_event, Binding, obtained, cleared, made, binding_at, binding_event, allowed_if, either_use, variable_at, cancel_called, cancel_passed, cancel_use, group_started, group_tried, group_awaited, group_limited, group_called, group_lent, group_use, kind_use, use_outcome, mention_outcome, binding_outcome, row_outcome, role_outcome, local_outcome, variable_outcome, is_own, has_no_argument, has_its_arguments, is_statement_place, is_deferred_place, takes, is_given_as, cancel_type_of, is_call_place, callee_of, body_gives, is_free, only_argument, started_literal, are_members, literals_between, is_statement_or_value, is_item_place, is_deferred, cancel_use_by, is_read, error_events, lost_to, obtain_kept, renew, keep, call_kept, defer_kept, give, give_field}
+use Rattle.meaning.specs.Uses.{Seen, found, kind_of, tracked_kind, Event, other, obtain, clear, call, defer_call, pass, defer_pass, lend, start, try, wait, defer_wait, make, defer_literal, go, go_call, go_pass, go_literal, return_event, Binding, obtained, cleared, made, binding_at, binding_event, allowed_if, either_use, variable_at, cancel_called, cancel_passed, cancel_use, group_started, group_tried, group_awaited, group_limited, group_called, group_lent, group_use, kind_use, use_outcome, mention_outcome, binding_outcome, row_outcome, role_outcome, local_outcome, variable_outcome, is_own, has_no_argument, has_its_arguments, is_statement_place, is_deferred_place, takes, is_given_as, cancel_type_of, is_call_place, callee_of, body_gives, is_free, only_argument, started_literal, are_members, literals_between, is_statement_or_value, is_item_place, runs_once, call_taken_on, taken_on, is_under_go, cancel_use_by, is_read, error_events, lost_to, obtain_kept, renew, keep, call_kept, defer_kept, give, give_field}
 use Rattle.meaning.proofs.Membership.{contains_cases, contains_nil}
 use Rattle.meaning.specs.Kept.{object_events}
 use Rattle.meaning_runs.specs.RunLists.{is_return}
 use Rattle.meaning_runs.proofs.KeptEvents.{IsOfObject, by_renew, by_call, by_deferred, by_give, by_keep, by_outer, by_obtaining, by_gift, object_events_are}
+use Rattle.meaning_runs.proofs.SentEvents.{IsSentOut, sent_events_are, run_event}
 use Rattle.tree.specs.declared.edition.Edition.{Edition}
 use Rattle.tree.specs.declared.edition.Edition.TheVariants.{First, Second}
-use Rattle.meaning.specs.BodyEvents.{mark_events}
+use Rattle.meaning.specs.BodyEvents.{mark_events, sent_events}
 use Rattle.std.proofs.lemmas.List.Elements.{Contains-append_cases}
 
 -- what a mention of a cancel variable gives that binds nothing
@@ -61,9 +62,12 @@ cancel_use_is_use (wait g) h = refl
 cancel_use_is_use (defer_wait g) h = refl
 cancel_use_is_use (make u state) h = h
 cancel_use_is_use (defer_literal at) h = h
+cancel_use_is_use (go (go_call v)) h = h
+cancel_use_is_use (go (go_pass f xs)) h = h
+cancel_use_is_use (go (go_literal at)) h = h
 cancel_use_is_use (return_event handed) h = h
 
--- what a mention gives
+-- what a mention gives; and in the second edition it may start a goroutine that calls
 abbrev pub is_told_of_mention : Event → Bool
 is_told_of_mention other = false
 is_told_of_mention (obtain_kept u f n x) = false
@@ -74,6 +78,7 @@ is_told_of_mention (defer_kept v x) = false
 is_told_of_mention (give v x) = false
 is_told_of_mention (give_field v) = false
 is_told_of_mention (defer_literal at) = false
+is_told_of_mention (go work) = false
 is_told_of_mention (return_event handed) = false
 is_told_of_mention e = true
 
@@ -99,6 +104,9 @@ use_is_told (wait g) h = refl
 use_is_told (defer_wait g) h = refl
 use_is_told (make u state) h = refl
 use_is_told (defer_literal at) h = h
+use_is_told (go (go_call v)) h = h
+use_is_told (go (go_pass f xs)) h = h
+use_is_told (go (go_literal at)) h = h
 use_is_told (return_event handed) h = h
 
 -- the event passes that variable on
@@ -123,6 +131,10 @@ module _ (P : Event → Type 0) where
   abbrev pub AllFitIf : Option (List Event) → Type 0
   AllFitIf None = Unit {0}
   AllFitIf (Some es) = AllFit es
+
+  -- of the second edition alone
+  abbrev pub GoFits : Seen → Type 0
+  GoFits seen = seen.known.edition ≡ Second → (v : ℕ) → P (go (go_call v))
 
   pub none_given : AllFit []
   none_given e h = absurd (contains_nil e h)
@@ -210,12 +222,39 @@ module _ (P : Event → Type 0) where
     cancel_use_fits known t m (new_literal row) = tt
     cancel_use_fits known t m parameter_pointer = tt
 
-    cancel_use_by_fits : (edition : Edition) (known : Known) (t : CancelType) (m : Mention) (r : Role)
+    call_taken_on_fits : (t : CancelType) (selected : Option (List ℕ)) (c : Call) → P (go (go_call l.number))
+        → AllFitIf (call_taken_on t l.number selected c)
+    call_taken_on_fits t (Some m) c goes = tt
+    call_taken_on_fits t None c goes =
+        allowed (has_its_arguments t c && is_under_go c.place) (go (go_call l.number) ∷ [])
+        (one_fits (go (go_call l.number)) goes)
+
+    taken_on_fits : (t : CancelType) (m : Mention) (r : Role) → P (go (go_call l.number)) → AllFitIf (taken_on t l m r)
+    taken_on_fits t m (called c) goes = call_taken_on_fits t m.named.selected c goes
+    taken_on_fits t m elsewhere goes = tt
+    taken_on_fits t m as_key goes = tt
+    taken_on_fits t m exposed goes = tt
+    taken_on_fits t m pointed_to goes = tt
+    taken_on_fits t m (found_nil nil) goes = tt
+    taken_on_fits t m (found_error nil row) goes = tt
+    taken_on_fits t m called_in_brackets goes = tt
+    taken_on_fits t m (argument k b c) goes = tt
+    taken_on_fits t m (returned k) goes = tt
+    taken_on_fits t m (left k row) goes = tt
+    taken_on_fits t m (names_type row) goes = tt
+    taken_on_fits t m (new_literal row) goes = tt
+    taken_on_fits t m parameter_pointer goes = tt
+
+    cancel_use_by_fits : (edition : Edition) → (edition ≡ Second → P (go (go_call l.number)))
+        → (known : Known) (t : CancelType) (m : Mention) (r : Role)
         → AllFitIf (cancel_use_by edition known t l bodies m r)
-    cancel_use_by_fits First known t m r = cancel_use_fits known t m r
-    cancel_use_by_fits Second known t m r =
-        one_of (cancel_use known t l bodies m r) (allowed_if (is_read t r m.named.selected) [])
-        (cancel_use_fits known t m r) (allowed (is_read t r m.named.selected) [] none_given)
+    cancel_use_by_fits First goes known t m r = cancel_use_fits known t m r
+    cancel_use_by_fits Second goes known t m r =
+        one_of (cancel_use known t l bodies m r)
+        (either_use (taken_on t l m r) (allowed_if (is_read t r m.named.selected) []))
+        (cancel_use_fits known t m r)
+        (one_of (taken_on t l m r) (allowed_if (is_read t r m.named.selected) []) (taken_on_fits t m r (goes refl))
+        (allowed (is_read t r m.named.selected) [] none_given))
 
   module _ (bodies : List BodyPlace) (l : Local)
       (fits : (e : Event) → is_use e ≡ true → PassesOwn bodies l e → P e) where
@@ -228,9 +267,9 @@ module _ (P : Event → Type 0) where
     group_called_fits seen None c = tt
     group_called_fits seen (Some m) c =
         let inside = are_members seen.known l bodies in
-        let saved = list_all is_deferred (literals_between l.body bodies) in
+        let saved = list_all (runs_once seen.known.edition) (literals_between l.body bodies) in
         let limited = if bytes_eq m (codes "SetLimit") then group_limited l bodies c else None in
-        let awaited = if bytes_eq m (codes "Wait") then group_awaited l bodies c else limited in
+        let awaited = if bytes_eq m (codes "Wait") then group_awaited seen.known.edition l bodies c else limited in
         let tried = if bytes_eq m (codes "TryGo") then group_tried seen l bodies c else awaited in
         let started = start l.number (started_literal (only_argument c)) in
         let attempted = try l.number (started_literal (only_argument c)) in
@@ -240,7 +279,7 @@ module _ (P : Event → Type 0) where
         (if_so (bytes_eq m (codes "TryGo")) (group_tried seen l bodies c) awaited
         (allowed (is_statement_or_value c.place && (is_free seen (only_argument c) && inside)) (attempted ∷ [])
         (one_fits attempted (idle_fits attempted refl refl)))
-        (if_so (bytes_eq m (codes "Wait")) (group_awaited l bodies c) limited
+        (if_so (bytes_eq m (codes "Wait")) (group_awaited seen.known.edition l bodies c) limited
         (one_allowed (has_no_argument c &&
         ((is_statement_or_value c.place || (is_item_place c.place && is_own l bodies)) && saved))
         (has_no_argument c && (is_deferred_place c.place && saved)) (wait l.number) (defer_wait l.number)
@@ -272,24 +311,26 @@ module _ (P : Event → Type 0) where
     group_use_fits seen m (new_literal row) = tt
     group_use_fits seen m parameter_pointer = tt
 
-    kind_use_fits : (seen : Seen) (kind : VariableKind) (m : Mention) → AllFitIf (kind_use seen l kind bodies m)
-    kind_use_fits seen cancel m =
-        cancel_use_by_fits bodies l (λ e h own. fits e (cancel_use_is_use e h) own) seen.known.edition seen.known (cancel_type_of seen l) m m.role
-    kind_use_fits seen group m = group_use_fits seen m m.role
+    kind_use_fits : (seen : Seen) (kind : VariableKind) (m : Mention) → GoFits seen → AllFitIf (kind_use seen l kind bodies m)
+    kind_use_fits seen cancel m goes =
+        cancel_use_by_fits bodies l (λ e h own. fits e (cancel_use_is_use e h) own) seen.known.edition
+        (λ second. goes second l.number) seen.known (cancel_type_of seen l) m m.role
+    kind_use_fits seen group m goes = group_use_fits seen m m.role
 
-    pub mention_fits : (seen : Seen) (kind : Option VariableKind) (m : Mention)
+    pub mention_fits : (seen : Seen) (kind : Option VariableKind) (m : Mention) → GoFits seen
         → AllFit (mention_outcome seen l kind bodies m).events
-    mention_fits seen None m = none_given
-    mention_fits seen (Some kind) m = use_outcome_fits kind l m (kind_use seen l kind bodies m) (kind_use_fits seen kind m)
+    mention_fits seen None m goes = none_given
+    mention_fits seen (Some kind) m goes =
+        use_outcome_fits kind l m (kind_use seen l kind bodies m) (kind_use_fits seen kind m goes)
 
   module _ (bodies : List BodyPlace) (l : Local)
       (fits : (e : Event) → is_told_of_mention e ≡ true → PassesOwn bodies l e → P e) where
     of_use : (e : Event) → is_use e ≡ true → PassesOwn bodies l e → P e
     of_use e h own = fits e (use_is_told e h) own
 
-    unbound_fits : (seen : Seen) (m : Mention)
+    unbound_fits : (seen : Seen) (m : Mention) → GoFits seen
         → AllFit (mention_outcome seen l (tracked_kind seen (Some l)) bodies m).events
-    unbound_fits seen m = mention_fits bodies l of_use seen (tracked_kind seen (Some l)) m
+    unbound_fits seen m goes = mention_fits bodies l of_use seen (tracked_kind seen (Some l)) m goes
 
     binding_fits : (known : Known) (m : Mention) (row : Row) (binding : Binding)
         → P (binding_event known l m row binding)
@@ -316,41 +357,42 @@ module _ (P : Event → Type 0) where
     bound_fits seen kind m row binding in_block =
         here_fits (is_own l bodies) (binding_event seen.known l m row binding) (binding_fits seen.known m row binding)
 
-    row_fits : (seen : Seen) (kind : Option VariableKind) (m : Mention) (row : Row) (binding : Option Binding)
+    row_fits : (seen : Seen) (kind : Option VariableKind) (m : Mention) (row : Row) (binding : Option Binding) → GoFits seen
         → AllFit (row_outcome seen l kind bodies m row binding).events
-    row_fits seen None m row None = none_given
-    row_fits seen None m row (Some binding) = none_given
-    row_fits seen (Some kind) m row None = unbound_fits seen m
-    row_fits seen (Some kind) m row (Some binding) = bound_fits seen kind m row binding l.role
+    row_fits seen None m row None goes = none_given
+    row_fits seen None m row (Some binding) goes = none_given
+    row_fits seen (Some kind) m row None goes = unbound_fits seen m goes
+    row_fits seen (Some kind) m row (Some binding) goes = bound_fits seen kind m row binding l.role
 
-    role_fits : (seen : Seen) (m : Mention) (r : Role) → AllFit (role_outcome seen l bodies m r).events
-    role_fits seen m (left k row) = row_fits seen (kind_of seen (Some l)) m row (binding_at seen row k)
-    role_fits seen m elsewhere = unbound_fits seen m
-    role_fits seen m as_key = unbound_fits seen m
-    role_fits seen m exposed = unbound_fits seen m
-    role_fits seen m pointed_to = unbound_fits seen m
-    role_fits seen m (found_nil nil) = unbound_fits seen m
-    role_fits seen m (found_error nil row) = unbound_fits seen m
-    role_fits seen m (called c) = unbound_fits seen m
-    role_fits seen m called_in_brackets = unbound_fits seen m
-    role_fits seen m (argument k x c) = unbound_fits seen m
-    role_fits seen m (returned k) = unbound_fits seen m
-    role_fits seen m (names_type row) = unbound_fits seen m
-    role_fits seen m (new_literal row) = unbound_fits seen m
-    role_fits seen m parameter_pointer = unbound_fits seen m
+    role_fits : (seen : Seen) (m : Mention) (r : Role) → GoFits seen → AllFit (role_outcome seen l bodies m r).events
+    role_fits seen m (left k row) goes = row_fits seen (kind_of seen (Some l)) m row (binding_at seen row k) goes
+    role_fits seen m elsewhere goes = unbound_fits seen m goes
+    role_fits seen m as_key goes = unbound_fits seen m goes
+    role_fits seen m exposed goes = unbound_fits seen m goes
+    role_fits seen m pointed_to goes = unbound_fits seen m goes
+    role_fits seen m (found_nil nil) goes = unbound_fits seen m goes
+    role_fits seen m (found_error nil row) goes = unbound_fits seen m goes
+    role_fits seen m (called c) goes = unbound_fits seen m goes
+    role_fits seen m called_in_brackets goes = unbound_fits seen m goes
+    role_fits seen m (argument k x c) goes = unbound_fits seen m goes
+    role_fits seen m (returned k) goes = unbound_fits seen m goes
+    role_fits seen m (names_type row) goes = unbound_fits seen m goes
+    role_fits seen m (new_literal row) goes = unbound_fits seen m goes
+    role_fits seen m parameter_pointer goes = unbound_fits seen m goes
 
-  local_fits : (seen : Seen) (bodies : List BodyPlace) (m : Mention) (o : Option Local)
+  local_fits : (seen : Seen) (bodies : List BodyPlace) (m : Mention) (o : Option Local) → GoFits seen
       → ((l : Local) → o ≡ Some l → (e : Event) → is_told_of_mention e ≡ true → PassesOwn bodies l e → P e)
       → AllFit (local_outcome seen bodies m o).events
-  local_fits seen bodies m None fits = none_given
-  local_fits seen bodies m (Some l) fits = role_fits bodies l (fits l refl) seen m m.role
+  local_fits seen bodies m None goes fits = none_given
+  local_fits seen bodies m (Some l) goes fits = role_fits bodies l (fits l refl) seen m m.role goes
 
-  pub variable_fits : (seen : Seen) (bodies : List BodyPlace) (m : Mention)
+  pub variable_fits : (seen : Seen) (bodies : List BodyPlace) (m : Mention) → GoFits seen
       → ((l : Local) → found seen (variable_of seen.known m) ≡ Some l
       → (e : Event) → is_told_of_mention e ≡ true → PassesOwn bodies l e
       → P e)
       → AllFit (variable_outcome seen bodies m).events
-  variable_fits seen bodies m fits = local_fits seen bodies m (found seen (variable_of seen.known m)) fits
+  variable_fits seen bodies m goes fits =
+      local_fits seen bodies m (found seen (variable_of seen.known m)) goes fits
 
   -- behind a giver with an error, calls alone
   calls_fit : ((v : ℕ) → P (call v)) → (vs : List ℕ) → AllFit (map call vs)
@@ -384,32 +426,42 @@ module _ (P : Event → Type 0) where
   pub mention_events_fit : (seen : Seen) (bodies : List BodyPlace) (m : Mention)
       → ((v : ℕ) → P (call v))
       → ((e : Event) → IsOfObject seen bodies (mentions m) e → P e)
+      → ((e : Event) → IsSentOut seen bodies m e → P e)
       → AllFit (variable_outcome seen bodies m).events
       → AllFit (mark_events seen bodies (mentions m))
-  mention_events_fit seen bodies m calls objects fits e h =
+  mention_events_fit seen bodies m calls objects sends fits e h =
       let lost = error_events seen m m.role in
       let of_objects = object_events seen bodies m in
-      elim (Contains-append_cases (variable_outcome seen bodies m).events (lost ++ of_objects) e h) [
+      let sent = sent_events seen.known.edition seen bodies m in
+      elim (Contains-append_cases (variable_outcome seen bodies m).events (lost ++ (of_objects ++ sent)) e h) [
         | inl own ↦ fits e own
-        | inr more ↦ elim (Contains-append_cases lost of_objects e more) [
+        | inr more ↦ elim (Contains-append_cases lost (of_objects ++ sent) e more) [
           | inl x ↦ error_fits seen m m.role calls e x
-          | inr x ↦ objects e (object_events_are seen bodies m e x)
+          | inr rest ↦ elim (Contains-append_cases of_objects sent e rest) [
+            | inl x ↦ objects e (object_events_are seen bodies m e x)
+            | inr x ↦ sends e (sent_events_are seen bodies m e x)
+          ]
         ]
       ]
 
--- what is no call is given by the mention's own variable, or is of an object
+-- what is no call, and starts no function, is given by the mention's own variable, or is of an object
 pub of_its_variable : (seen : Seen) (bodies : List BodyPlace) (m : Mention) (e : Event)
     → ((v : ℕ) → call v ≡ e → ⊥)
+    → (IsSentOut seen bodies m e → ⊥)
     → Contains (mark_events seen bodies (mentions m)) e
     → Contains (variable_outcome seen bodies m).events e ⊎ IsOfObject seen bodies (mentions m) e
-of_its_variable seen bodies m e none h =
+of_its_variable seen bodies m e none unsent h =
     let lost = error_events seen m m.role in
     let of_objects = object_events seen bodies m in
-    elim (Contains-append_cases (variable_outcome seen bodies m).events (lost ++ of_objects) e h) [
+    let sent = sent_events seen.known.edition seen bodies m in
+    elim (Contains-append_cases (variable_outcome seen bodies m).events (lost ++ (of_objects ++ sent)) e h) [
       | inl own ↦ inl own
-      | inr more ↦ elim (Contains-append_cases lost of_objects e more) [
+      | inr more ↦ elim (Contains-append_cases lost (of_objects ++ sent) e more) [
         | inl x ↦ absurd (error_fits (λ y. y ≡ e → ⊥) seen m m.role none e x refl)
-        | inr x ↦ inr (object_events_are seen bodies m e x)
+        | inr rest ↦ elim (Contains-append_cases of_objects sent e rest) [
+          | inl x ↦ inr (object_events_are seen bodies m e x)
+          | inr x ↦ absurd (unsent (sent_events_are seen bodies m e x))
+        ]
       ]
     ]
 
@@ -441,6 +493,7 @@ told_is_no_return (wait g) h = refl
 told_is_no_return (defer_wait g) h = refl
 told_is_no_return (make u state) h = refl
 told_is_no_return (defer_literal at) h = refl
+told_is_no_return (go work) h = refl
 told_is_no_return (return_event handed) h = let bad : false ≡ true = h in cc
 
 pub object_is_no_return : {seen : Seen} {bodies : List BodyPlace} {mark : Mark} (e : Event)
@@ -459,11 +512,13 @@ pub mentions_are_quiet : (seen : Seen) (bodies : List BodyPlace) (m : Mention)
     → AreQuiet (mark_events seen bodies (mentions m))
 mentions_are_quiet seen bodies m =
     mention_events_fit (λ e. is_return e ≡ false) seen bodies m (λ v. refl) (λ e is. object_is_no_return e is)
-    (variable_fits (λ e. is_return e ≡ false) seen bodies m λ l is e told own. told_is_no_return e told)
+    (λ e is. ap is_return is.is_event)
+    (variable_fits (λ e. is_return e ≡ false) seen bodies m (λ second v. refl) λ l is e told own. told_is_no_return e told)
 
--- it saves the call of a literal
+-- a statement runs a literal, at the return or in a goroutine
 abbrev is_deferral : Event → Bool
 is_deferral (defer_literal at) = true
+is_deferral (go (go_literal at)) = true
 is_deferral e = false
 
 told_is_no_deferral : (e : Event) → is_told_of_mention e ≡ true → is_deferral e ≡ false
@@ -487,6 +542,9 @@ told_is_no_deferral (try g literal) h = refl
 told_is_no_deferral (wait g) h = refl
 told_is_no_deferral (defer_wait g) h = refl
 told_is_no_deferral (make u state) h = refl
+told_is_no_deferral (go (go_call v)) h = refl
+told_is_no_deferral (go (go_pass f xs)) h = refl
+told_is_no_deferral (go (go_literal at)) h = let bad : false ≡ true = h in cc
 told_is_no_deferral (defer_literal at) h = let bad : false ≡ true = h in cc
 told_is_no_deferral (return_event handed) h = refl
 
@@ -502,17 +560,24 @@ object_is_no_deferral e (by_outer k h fits) = refl
 object_is_no_deferral e (by_obtaining k site l a is h told) = refl
 object_is_no_deferral e (by_gift x v c q) = refl
 
-pub objects_defer_no_literal : {seen : Seen} {bodies : List BodyPlace} {mark : Mark} (at : ℕ)
-    → IsOfObject seen bodies mark (defer_literal at)
-    → ⊥
-objects_defer_no_literal at is = let bad : true ≡ false = object_is_no_deferral (defer_literal at) is in cc
+runs_so : (moment : Moment) (at : ℕ) → is_deferral (run_event moment at) ≡ true
+runs_so at_return at = refl
+runs_so in_goroutine at = refl
 
-pub mentions_defer_no_literal : (seen : Seen) (bodies : List BodyPlace) (m : Mention) (at : ℕ)
-    → Contains (mark_events seen bodies (mentions m)) (defer_literal at)
+pub objects_run_no_literal : {seen : Seen} {bodies : List BodyPlace} {mark : Mark} (moment : Moment) (at : ℕ)
+    → IsOfObject seen bodies mark (run_event moment at)
     → ⊥
-mentions_defer_no_literal seen bodies m at h =
-    let bad : true ≡ false =
+objects_run_no_literal moment at is =
+    let bad : true ≡ false = sym (runs_so moment at) ∙ object_is_no_deferral (run_event moment at) is in
+    cc
+
+pub mentions_run_no_literal : (seen : Seen) (bodies : List BodyPlace) (m : Mention) (moment : Moment) (at : ℕ)
+    → Contains (mark_events seen bodies (mentions m)) (run_event moment at)
+    → ⊥
+mentions_run_no_literal seen bodies m moment at h =
+    let bad : true ≡ false = sym (runs_so moment at) ∙
     mention_events_fit (λ e. is_deferral e ≡ false) seen bodies m (λ v. refl) (λ e is. object_is_no_deferral e is)
-    (variable_fits (λ e. is_deferral e ≡ false) seen bodies m (λ l is e told own. told_is_no_deferral e told))
-    (defer_literal at) h in
+    (λ e is. ap is_deferral is.is_event)
+    (variable_fits (λ e. is_deferral e ≡ false) seen bodies m (λ second v. refl) (λ l is e told own. told_is_no_deferral e told))
+    (run_event moment at) h in
     cc

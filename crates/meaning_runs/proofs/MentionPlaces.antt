@@ -8,9 +8,9 @@ use Rattle.std.proofs.lemmas.List.Elements.{Contains-append_cases}
 use Rattle.meaning.specs.FunctionFacts.{CancelType, is_same_type, cancel_type, group_type, VariableKind, cancel, group, errgroup_path, is_import}
 use Rattle.meaning.specs.Mentions.{BodyPlace, Standing, ordinary, first_of_for, communication, Row, Call, CallPlace, nowhere, as_statement, only_value, return_item, deferred, Role, elsewhere, as_key, called, called_in_brackets, argument, returned, left, names_type, new_literal, parameter_pointer, Mention, exposed, found_nil, found_error, pointed_to, under_go}
 use Rattle.meaning.specs.Tracked.{is_universe, variable_of, declared_by, Giving, giving_of, row_giving, are_locals, LocalRole, parameter, receiver, variadic, result, in_block, Local}
-use Rattle.meaning.specs.Uses.{Seen, found, kind_of, tracked_kind, last_name, Event, other, obtain, clear, call, defer_call, pass, defer_pass, lend, start, try, wait, defer_wait, make, defer_literal, return_event, Binding, obtained, cleared, made, binding_at, binding_event, row_binds, allowed_if, either_use, variable_at, cancel_called, cancel_passed, cancel_use, only_argument, group_started, group_tried, group_awaited, group_limited, group_called, group_lent, group_use, is_own, body_gives, has_no_argument, has_its_arguments, is_statement_place, is_deferred_place, is_item_place, is_statement_or_value, is_call_place, takes, is_given_as, cancel_type_of, type_from, callee_of, is_free, started_literal, are_members, literals_between, is_deferred, UseCode, recover_used, cancel_discarded, cancel_used_otherwise, group_used_otherwise, bound_again, UseFault, fault_at, otherwise, Outcome, if_not, again_faults, type_faults, first_faults, binding_outcome, use_outcome, kind_use, mention_outcome, row_outcome, role_outcome, local_outcome, variable_outcome, last_fault, has_blank, row_call_faults, hands_on, call_faults, is_only_called, giving_role_faults, giving_faults, is_made_or_parameter, recover_faults, mention_faults, is_in_literal, cancel_use_by, is_read, obtain_kept, renew, keep, call_kept, defer_kept, give, give_field}
+use Rattle.meaning.specs.Uses.{Seen, found, kind_of, tracked_kind, last_name, Event, other, obtain, clear, call, defer_call, pass, defer_pass, lend, start, try, wait, defer_wait, make, defer_literal, return_event, Binding, obtained, cleared, made, binding_at, binding_event, row_binds, allowed_if, either_use, variable_at, cancel_called, cancel_passed, cancel_use, only_argument, group_started, group_tried, group_awaited, group_limited, group_called, group_lent, group_use, is_own, body_gives, has_no_argument, has_its_arguments, is_statement_place, is_deferred_place, is_item_place, is_statement_or_value, is_call_place, takes, is_given_as, cancel_type_of, type_from, callee_of, is_free, started_literal, are_members, literals_between, UseCode, recover_used, cancel_discarded, cancel_used_otherwise, group_used_otherwise, bound_again, UseFault, fault_at, otherwise, Outcome, if_not, again_faults, type_faults, first_faults, binding_outcome, use_outcome, kind_use, mention_outcome, row_outcome, role_outcome, local_outcome, variable_outcome, last_fault, has_blank, row_call_faults, hands_on, call_faults, is_only_called, giving_role_faults, giving_faults, is_made_or_parameter, recover_faults, mention_faults, is_in_literal, cancel_use_by, is_read, obtain_kept, renew, keep, call_kept, defer_kept, give, give_field, go_call, go, runs_once, taken_on, call_taken_on, is_under_go}
 use Rattle.meaning.proofs.Membership.{contains_nil, contains_cases}
-use Rattle.meaning_runs.specs.NamePlaces.{PlaceStandsWithin, RoleStandsWithin, PlaceStandsWithin, RoleStandsWithin}
+use Rattle.meaning_runs.specs.NamePlaces.{PlaceStandsWithin, RoleStandsWithin}
 use Rattle.tree.specs.declared.edition.Edition.{Edition}
 use Rattle.tree.specs.declared.edition.Edition.TheVariants.{First, Second}
 
@@ -37,6 +37,7 @@ EventStandsWithin n (wait g) = Unit {0}
 EventStandsWithin n (defer_wait g) = Unit {0}
 EventStandsWithin n (make u state) = u.at ≤ n
 EventStandsWithin n (defer_literal at) = Unit {0}
+EventStandsWithin n (go work) = Unit {0}
 EventStandsWithin n (return_event handed) = Unit {0}
 
 pub record EventsStandWithin (n : ℕ) (es : List Event) : Type 0 where
@@ -154,13 +155,36 @@ module _ (n : ℕ) where
     cancel_lies (new_literal row) = tt
     cancel_lies parameter_pointer = tt
 
+    call_taken_lies : (selected : Option (List ℕ)) (c : Call)
+        → EventsLieIf n (call_taken_on its_type l.number selected c)
+    call_taken_lies (Some name) c = tt
+    call_taken_lies None c =
+        allowed (has_its_arguments its_type c && is_under_go c.place) (go (go_call l.number) ∷ [])
+        (one_event (go (go_call l.number)) tt)
+
+    taken_lies : (r : Role) → EventsLieIf n (taken_on its_type l m r)
+    taken_lies (called c) = call_taken_lies m.named.selected c
+    taken_lies elsewhere = tt
+    taken_lies as_key = tt
+    taken_lies exposed = tt
+    taken_lies pointed_to = tt
+    taken_lies (found_nil nil) = tt
+    taken_lies (found_error nil row) = tt
+    taken_lies called_in_brackets = tt
+    taken_lies (argument k b c) = tt
+    taken_lies (returned k) = tt
+    taken_lies (left k row) = tt
+    taken_lies (names_type row) = tt
+    taken_lies (new_literal row) = tt
+    taken_lies parameter_pointer = tt
+
     group_called_lies : (selected : Option (List ℕ)) (c : Call) → EventsLieIf n (group_called seen l bodies selected c)
     group_called_lies None c = tt
     group_called_lies (Some name) c =
         let inside = are_members seen.known l bodies in
-        let saved = list_all is_deferred (literals_between l.body bodies) in
+        let saved = list_all (runs_once seen.known.edition) (literals_between l.body bodies) in
         let limited = if bytes_eq name (codes "SetLimit") then group_limited l bodies c else None in
-        let awaited = if bytes_eq name (codes "Wait") then group_awaited l bodies c else limited in
+        let awaited = if bytes_eq name (codes "Wait") then group_awaited seen.known.edition l bodies c else limited in
         let tried = if bytes_eq name (codes "TryGo") then group_tried seen l bodies c else awaited in
         if_so (bytes_eq name (codes "Go")) (group_started seen l bodies c) tried
         (allowed (is_statement_place c.place && (is_free seen (only_argument c) && inside))
@@ -170,7 +194,7 @@ module _ (n : ℕ) where
         (allowed (is_statement_or_value c.place && (is_free seen (only_argument c) && inside))
         (try l.number (started_literal (only_argument c)) ∷ [])
         (one_event (try l.number (started_literal (only_argument c))) tt))
-        (if_so (bytes_eq name (codes "Wait")) (group_awaited l bodies c) limited
+        (if_so (bytes_eq name (codes "Wait")) (group_awaited seen.known.edition l bodies c) limited
         (one_allowed (has_no_argument c &&
         ((is_statement_or_value c.place || (is_item_place c.place && is_own l bodies)) && saved))
         (has_no_argument c && (is_deferred_place c.place && saved)) (wait l.number) (defer_wait l.number) tt tt)
@@ -206,8 +230,11 @@ module _ (n : ℕ) where
         by : (edition : Edition) (r : Role) → EventsLieIf n (cancel_use_by edition seen.known its_type l bodies m r)
         by First r = cancel_lies r
         by Second r =
-            one_of (cancel_use seen.known its_type l bodies m r) (allowed_if (is_read its_type r m.named.selected) [])
-            (cancel_lies r) (allowed (is_read its_type r m.named.selected) [] no_event)
+            one_of (cancel_use seen.known its_type l bodies m r)
+            (either_use (taken_on its_type l m r) (allowed_if (is_read its_type r m.named.selected) []))
+            (cancel_lies r)
+            (one_of (taken_on its_type l m r) (allowed_if (is_read its_type r m.named.selected) []) (taken_lies r)
+            (allowed (is_read its_type r m.named.selected) [] no_event))
     kind_lies group = group_lies m.role
 
     use_lies : (kind : VariableKind) (o : Option (List Event)) → EventsLieIf n o → OutcomeStandsWithin n (use_outcome kind l m o)

@@ -14,13 +14,13 @@ use Rattle.tree.specs.declared.operator.UnaryOperator.{UnaryOperator}
 use Rattle.tree.specs.declared.operator.UnaryOperator.TheVariants.{Address}
 use Rattle.tree.specs.Syntax.{Identifier, TypeName, Expression, expression_node, ExpressionForm, name_expression, composite_literal, parenthesized, selector_expression, index_expression, instance_expression, star_expression, unary_expression, array_type, Expressions, no_expression, expression_and, OptionalExpression, missing_expression, present_expression, OptionalStatement, missing_statement, present_statement, Parameters, no_parameter, named_and, unnamed_and, name_alone_and, binary_expression, statement_node, if_statement, Statements, statement_and}
 use Rattle.meaning.specs.Scopes.{is_blank, first_of, bare_names, named_in_type, named_in_types}
-use Rattle.meaning.specs.Mentions.{Named, as_bare, as_named, without_brackets, as_bracketed, as_pointer, as_new_literal, select_from, embedded, Standing, ordinary, first_of_for, communication, Row, CallPlace, nowhere, as_statement, only_value, return_item, deferred, place_in, Call, call_of, is_one, is_none_left, LiteralUse, other_use, deferred_call, started_by, Role, elsewhere, called_in_brackets, argument, left, new_literal, parameter_pointer, BodyPlace, Mark, defers_literal, opens, closes, in_body, Spot, part_of, whole, mention, name_role, named_or, callee_or, addressed, argument_or, argument_at, new_literal_or, deferral, parameter_type_or, left_names, declared_elsewhere, guard_in_clause, expression_marks, form_marks, expressions_marks, arguments_marks, items_marks, lefts_marks, parameters_marks, exposed, addressed_within, bare_within, ranged_marks, NilTest, nil_test, nil_marks, nil_where, has_both, compares, exposed_or, error_where, error_marks, guard_marks, behind_row, statement_form_marks, statement_marks, statements_marks, optional_statement_marks, pointed_to, under_go, FieldLeft, Assigned, Taker, FieldMark, calls_field, writes_field, hands_over, hands_literal, renews, imports_all, of_fields, field_left, object_of, is_in_brackets, in_more_brackets, field_written, given_to, argument_taker, argument_spot, as_key}
+use Rattle.meaning.specs.Mentions.{Named, as_bare, as_named, without_brackets, as_bracketed, as_pointer, as_new_literal, select_from, embedded, Standing, ordinary, first_of_for, communication, Row, CallPlace, nowhere, as_statement, only_value, return_item, deferred, place_in, Call, call_of, is_one, is_none_left, LiteralUse, other_use, deferred_call, started_by, Role, elsewhere, called_in_brackets, argument, left, new_literal, parameter_pointer, BodyPlace, Mark, runs_literal, opens, closes, in_body, Spot, part_of, whole, mention, name_role, named_or, callee_or, addressed, argument_or, argument_at, new_literal_or, deferral, parameter_type_or, left_names, declared_elsewhere, guard_in_clause, expression_marks, form_marks, expressions_marks, arguments_marks, items_marks, lefts_marks, parameters_marks, exposed, addressed_within, bare_within, ranged_marks, NilTest, nil_test, nil_marks, nil_where, has_both, compares, exposed_or, error_where, error_marks, guard_marks, behind_row, statement_form_marks, statement_marks, statements_marks, optional_statement_marks, pointed_to, under_go, FieldLeft, Assigned, Taker, FieldMark, calls_field, writes_field, hands_over, hands_literal, renews, imports_all, of_fields, field_left, object_of, is_in_brackets, in_more_brackets, field_written, given_to, argument_taker, argument_spot, as_key, at_return, in_goroutine, call_under_go}
 use Rattle.meaning.specs.Cursor.{GoText, Rule, ◌⨾◌, identifier}
 use Rattle.meaning.specs.OperatorTokens.{assign_operator}
 use Rattle.meaning.specs.Grammar.{Position, as_type, as_expression, as_value, as_element, as_constraint, end_of_selector, end_of_name, end_of_type, channel, arguments, perhaps, elements, third_bound, guard_name, initial, range_left, case_head, communication_head, optional_tag, before_item, after_items, after_instance, type_parameters, parameters_stand, length_stands, no_type_parameters, after_type_name, qualifier, type_name, import_name, SpellsExpression, SpellsExpressions, SpellsMore}
 use Rattle.meaning.proofs.Membership.{contains_here, contains_nil, contains_cases, contains_there}
-use Rattle.meaning_runs.specs.NamePlaces.{PlaceStandsWithin, RoleStandsWithin, StandsWithin, PlaceStandsWithin, RoleStandsWithin, FieldStandsWithin}
-use Rattle.meaning_runs.proofs.NameRules.{Says, Keeps, AllStandWithin, none_lie, lie_and, one_lies, both_lie, EachIn, says_nothing, keeps_nothing, says_never, keeps_not_before, keeps_token, behind, ending, says_one, so, keeps, given, spanned, enclosed, keeps_optional, keeps_only_if, keeps_string, keeps_semicolon, says_identifier, both, moved, no_marks, AllStandWithin, says_too, says_both}
+use Rattle.meaning_runs.specs.NamePlaces.{PlaceStandsWithin, RoleStandsWithin, StandsWithin, FieldStandsWithin}
+use Rattle.meaning_runs.proofs.NameRules.{Says, Keeps, AllStandWithin, none_lie, lie_and, one_lies, both_lie, EachIn, says_nothing, keeps_nothing, says_never, keeps_not_before, keeps_token, behind, ending, says_one, so, keeps, given, spanned, enclosed, keeps_optional, keeps_only_if, keeps_string, keeps_semicolon, says_identifier, both, moved, no_marks, says_too, says_both}
 use Rattle.std.specs.Str.{bytes_eq}
 use Rattle.meaning_runs.proofs.FieldMarks.{FieldsOnly, no_more, and_one, IsNoWrite, given_only, written_only}
 use Rattle.std.proofs.lemmas.Option.{none-some, same_Some}
@@ -439,7 +439,8 @@ module _ {n : ℕ} where
 
   pub deferral_lies : (used : LiteralUse) (site at : ℕ) → AllStandWithin n (deferral used site at)
   deferral_lies other_use site at = none_lie
-  deferral_lies deferred_call site at = one_lies (defers_literal site at) tt
+  deferral_lies deferred_call site at = one_lies (runs_literal at_return site at) tt
+  deferral_lies call_under_go site at = one_lies (runs_literal in_goroutine site at) tt
   deferral_lies (started_by x) site at = none_lie
 
   pub body_lies : (b : BodyPlace) {ms : List Mark} → StandsWithin n (opens b) → AllStandWithin n ms → AllStandWithin n (in_body b ms)

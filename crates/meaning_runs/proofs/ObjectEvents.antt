@@ -9,10 +9,10 @@ use Rattle.tree.specs.Syntax.{Expressions, no_expression, expression_and, Signat
 use Rattle.meaning.specs.Code.{Occurrence}
 use Rattle.meaning.specs.Lists.{Reaches}
 use Rattle.meaning.specs.FunctionFacts.{VariableKind, cancel, group, CancelResult, Item, items_of, item_type}
-use Rattle.meaning.specs.Mentions.{marks_by, file_marks, as_bare, RowForm, defines, assigns, declares, Role, elsewhere, as_key, exposed, pointed_to, found_nil, found_error, called, called_in_brackets, argument, returned, left, names_type, new_literal, parameter_pointer, Mention, BodyPlace, Mark, mentions, of_fields, defers_literal, returns, opens, closes}
+use Rattle.meaning.specs.Mentions.{marks_by, file_marks, as_bare, RowForm, defines, assigns, declares, Role, elsewhere, as_key, exposed, pointed_to, found_nil, found_error, called, called_in_brackets, argument, returned, left, names_type, new_literal, parameter_pointer, Mention, BodyPlace, Mark, mentions, of_fields, runs_literal, returns, opens, closes}
 use Rattle.meaning.specs.Tracked.{some_keep, Known, ObjectLeft, declared_by, Placed, placed, parameter, receiver, result, in_block, Local, item_local, parameter_role, parameter_locals, receiver_locals, only_cancel, result_locals, receiver_items, signature_locals, row_typed, role_typed, declared_local, locals_there, locals_of, find_local}
 use Rattle.meaning.specs.Objects.{object_left, object_rows, field_locals, kind_by_role, points_in, is_bound_again, object_kind, local_named}
-use Rattle.meaning.specs.Uses.{Seen, seen_in, found, tracked_kind, cancel_type_of, is_given_as, is_body, body_gives, is_own, Handed, Event, other, obtain, obtain_kept, renew, keep, call_kept, defer_kept, give, give_field, clear, call, defer_call, pass, defer_pass, lend, start, try, wait, defer_wait, make, defer_literal, return_event}
+use Rattle.meaning.specs.Uses.{Seen, seen_in, found, tracked_kind, cancel_type_of, is_given_as, is_body, body_gives, is_own, Handed, Event, other, obtain, obtain_kept, renew, keep, call_kept, defer_kept, give, give_field, clear, call, defer_call, pass, defer_pass, lend, start, try, wait, defer_wait, make, defer_literal, Sent, go_call, go_pass, go_literal, go, return_event}
 use Rattle.meaning.specs.Kept.{Keep, is_of_body, object_kind_of, keeps_by_mark, keeps_there, handed_in_fields}
 use Rattle.meaning.specs.BodyEvents.{handed_at, handed_there, item_variable, handed_item, handed_on, mark_events}
 use Rattle.meaning.proofs.Membership.{contains_nil}
@@ -26,6 +26,7 @@ use Rattle.meaning_runs.proofs.Bindings.{same_body}
 use Rattle.meaning_runs.proofs.Captured.{any_true}
 use Rattle.meaning_runs.proofs.EventSources.{events_have_sources}
 use Rattle.meaning_runs.proofs.KeptEvents.{unfiltered, in_if, IsItsObject, IsPutInto, row_of_file, keep_of_file, IsOwnLocal, owned_is, keep_is_own, IsRowHere, carried_is, IsOfObject, by_renew, by_call, by_deferred, by_give, by_keep, by_outer, by_obtaining, by_gift, field_events_are, IsHandedWell, handed_in_fields_well}
+use Rattle.meaning_runs.proofs.SentEvents.{literal_event_fits}
 use Rattle.meaning_runs.proofs.MentionEvents.{is_told_of_mention, mention_events_fit, variable_fits}
 use Rattle.meaning_runs.proofs.OwnVariables.{binds_variable}
 use Rattle.meaning_runs.proofs.Places.{eqb_is}
@@ -97,7 +98,7 @@ module _ (known : Known) (lefts : ℕ → Option ObjectLeft) where
   there_same : (bodies : List BodyPlace) (mark : Mark) → locals_there Told bodies mark ≡ locals_there known bodies mark
   there_same bodies (mentions m) = declared_same m bodies (declared_by known m)
   there_same bodies (of_fields site m) = refl
-  there_same bodies (defers_literal site at) = refl
+  there_same bodies (runs_literal moment site at) = refl
   there_same bodies (returns at es) = refl
   there_same bodies (opens b) =
       ap (λ l. l ++ signature_locals Told b b.signature) (receivers_same b (receiver_items b.receiver))
@@ -260,6 +261,7 @@ IsKeptWell b (call_kept v x) = IsKeptThere b v x
 IsKeptWell b (defer_kept v x) = IsKeptThere b v x
 IsKeptWell b (give v x) = IsKeptThere b v x
 IsKeptWell b (give_field v) = is_declared_in b v ≡ true
+IsKeptWell b (go (go_pass f xs)) = (x : Sent) → Contains xs x → is_declared_in b x.number ≡ true
 IsKeptWell b (return_event handed) = (h : Handed) → Contains handed h → IsHandedFrom b h
 IsKeptWell b e = Unit {0}
 
@@ -285,6 +287,9 @@ told_is_well b (wait g) h = tt
 told_is_well b (defer_wait g) h = tt
 told_is_well b (make u state) h = tt
 told_is_well b (defer_literal at) h = absurd (false≢true h)
+told_is_well b (go (go_call v)) h = tt
+told_is_well b (go (go_pass f xs)) h = absurd (false≢true h)
+told_is_well b (go (go_literal at)) h = absurd (false≢true h)
 told_is_well b (return_event handed) h = absurd (false≢true h)
 
 module _ (p : Program) (b : Body) (of : IsOf p b) (bodies : List BodyPlace) (here : is_body b.place.at bodies ≡ true)
@@ -316,11 +321,12 @@ module _ (p : Program) (b : Body) (of : IsOf p b) where
   mark_is_well bodies (mentions m) here among e h =
       mention_events_fit (IsKeptWell b) b.file bodies m (λ v. tt)
       (object_is_well p b of bodies here (mentions m) among)
-      (variable_fits (IsKeptWell b) b.file bodies m (λ l found x told passed. told_is_well b x told)) e h
+      (λ x is. subst (IsKeptWell b) (sym is.is_event) (λ y c. own_of_body b bodies y.number here (is.are_own y c)))
+      (variable_fits (IsKeptWell b) b.file bodies m (λ second v. tt) (λ l found x told passed. told_is_well b x told)) e h
   mark_is_well bodies (of_fields site m) here among e h =
       object_is_well p b of bodies here (of_fields site m) among e (field_events_are b.file bodies site m e h)
-  mark_is_well bodies (defers_literal site at) here among e h =
-      subst (IsKeptWell b) (only_one (defer_literal at) e h) tt
+  mark_is_well bodies (runs_literal moment site at) here among e h =
+      literal_event_fits (IsKeptWell b) b.file.known.edition moment at tt tt e h
   mark_is_well bodies (returns at es) here among e h =
       subst (IsKeptWell b) (only_one (return_event (handed_on b.file bodies 0 es)) e h)
       (λ x c. handed_well b.file bodies 0 es x c)

@@ -5,22 +5,32 @@ use Rattle.std.specs.Prelude.{ℕ, ◌++◌, Bool, true, false, if◌then◌else
 use Rattle.meaning.specs.Code.{Occurrence, Code}
 use Rattle.meaning.specs.Uses.{Event}
 use Rattle.meaning_runs.specs.Bodies.{Program, Body, is_parameter_of}
-use Rattle.meaning_runs.specs.World.{Value, nothing, Place, Maker, nobody, frame_at, Store, put_at, Passing, Frame, World, in_cell, group_in_cell, bound_cell, with_member, nothing_around, empty_world, own_cell}
-use Rattle.meaning_runs.specs.Steps.{ComesTo, Begins, of_function, of_none, Acts, moves_on, does_other, obtains_one, clears_one, calls_one, saves_call, makes_group, tries_nothing, ends_wait, saves_wait, evaluates, evaluates_deferred, lends, makes_call, calls_outside, saves_pass, saves_literal, comes_to_return, runs_call, runs_pass, runs_literal, runs_wait, returns_now, ChangesMembers, starts_member, starts_stranger, starts_outside, starts_beside, leaves_group, Surrounds, starts, evaluates_literal, starts_literal, makes_cells, makes_one, ends_one, calls_any, makes_outside, joins_outside, Step, of_goroutine, of_members, of_environment, obtains_into, keeps_one, renews_object, calls_kept, saves_kept, gives_object, gives_in_field}
+use Rattle.meaning_runs.specs.World.{to_call_too, held, Value, nothing, Place, Maker, nobody, frame_at, Store, put_at, Passing, Frame, World, in_cell, group_in_cell, bound_cell, with_member, nothing_around, empty_world, own_cell}
+use Rattle.meaning_runs.specs.Steps.{StartsGoroutine, starts_call, starts_function, starts_foreign, starts_its_literal, sending, declared_too, of_go, ComesTo, Begins, of_function, of_none, Acts, moves_on, does_other, obtains_one, clears_one, calls_one, saves_call, makes_group, tries_nothing, ends_wait, saves_wait, evaluates, evaluates_deferred, lends, makes_call, calls_outside, saves_pass, saves_literal, comes_to_return, runs_call, runs_pass, runs_literal, runs_wait, returns_now, ChangesMembers, starts_member, starts_stranger, starts_outside, starts_beside, leaves_group, Surrounds, starts, evaluates_literal, starts_literal, makes_cells, makes_one, ends_one, calls_any, makes_outside, joins_outside, Step, of_goroutine, of_members, of_environment, obtains_into, keeps_one, renews_object, calls_kept, saves_kept, gives_object, gives_in_field}
 use Rattle.meaning_runs.specs.Runs.{Run, no_step, step_more}
 use Rattle.meaning_runs.proofs.GroupDuties.{is_mentioned}
 
--- the literal that a member runs, if it runs one, with what the literal's variables held when it began
+-- what a goroutine runs that was started for some work, if it runs something here, with what its variables held when it
+-- began
 pub record Root : Type 0 where
-  pub literal : Option Body
+  pub body : Option Body
   pub given : ℕ → Value
+  pub lent : ℕ → Option ℕ
 
 pub record Origins : Type 0 where
   -- the frame whose binding made the block of cells; nobody, where it is one of parameters
   pub owner : ℕ → Maker
   -- it is written once
   pub is_frozen : ℕ → Bool
+  -- what members run, by their goroutines
   pub root : ℕ → Root
+  -- all that goroutines were started with, and whether a `go` statement started one
+  pub begun : List Root
+  pub has_gone : Bool
+  -- the functions for whose call alone a goroutine was started
+  pub to_call : List ℕ
+  -- what stands less deep is not looked at
+  pub least : ℕ
 
 pub record Past : Type 0 where
   pub events : List (Occurrence Event)
@@ -37,13 +47,21 @@ pub record Memory : Type 0 where
   pub pasts : ℕ → List Past
 
 abbrev pub no_root : Root
-no_root = record { literal = None; given = λ v. nothing }
+no_root = record { body = None; given = λ v. nothing; lent = λ v. None }
 
-abbrev pub no_origins : Origins
-no_origins = record { owner = λ k. nobody; is_frozen = λ k. false; root = λ g. no_root }
+abbrev pub no_origins : ℕ → Origins
+no_origins least = record {
+  owner = λ k. nobody;
+  is_frozen = λ k. false;
+  root = λ g. no_root;
+  begun = [];
+  has_gone = false;
+  to_call = [];
+  least = least;
+}
 
-abbrev pub empty_memory : Memory
-empty_memory = record { origins = no_origins; pasts = λ g. [] }
+abbrev pub empty_memory : ℕ → Memory
+empty_memory least = record { origins = no_origins least; pasts = λ g. [] }
 
 -- the frame at the place bound the variable in that block
 abbrev pub written : Origins → Place → Body → ℕ → ℕ → Origins
@@ -56,8 +74,13 @@ written o place b k v = record o {
 abbrev pub with_block : Origins → ℕ → Origins
 with_block o k = record o { is_frozen = put_at o.is_frozen k true }
 
+-- a `go` statement starts a goroutine with it
+abbrev pub with_begun : Origins → Root → Origins
+with_begun o root = record o { begun = root ∷ o.begun; has_gone = true }
+
+-- a goroutine is started with it, as a member
 abbrev pub with_root : Origins → ℕ → Root → Origins
-with_root o g root = record o { root = put_at o.root g root }
+with_root o g root = record o { root = put_at o.root g root; begun = root ∷ o.begun }
 
 -- what a variable of a body gets that begins: a parameter its value, and any other one what is around it
 abbrev pub value_given : Store → Body → (ℕ → Value) → (ℕ → Option ℕ) → ℕ → Value
@@ -65,6 +88,14 @@ value_given s b values around v = if is_parameter_of b v then values v else in_c
 
 abbrev pub group_given : Store → Body → (ℕ → Option ℕ) → (ℕ → Option ℕ) → ℕ → Option ℕ
 group_given s b groups around v = if is_parameter_of b v then groups v else group_in_cell s v (around v)
+
+-- a goroutine is started with the body
+abbrev pub root_of : Store → Body → (ℕ → Value) → (ℕ → Option ℕ) → (ℕ → Option ℕ) → Root
+root_of s b values groups around = record {
+  body = Some b;
+  given = value_given s b values around;
+  lent = group_given s b groups around;
+}
 
 -- the past of a frame that begins
 abbrev pub no_past : Origins → Store → Body → (ℕ → Value) → (ℕ → Option ℕ) → (ℕ → Option ℕ) → Past
@@ -83,7 +114,7 @@ unknown_past = record {
   given = λ v. nothing;
   lent = λ v. None;
   store = empty_world.store;
-  origins = no_origins;
+  origins = no_origins 0;
 }
 
 abbrev pub first_past : List Past → Past
@@ -201,7 +232,7 @@ module _ {p : Program} {w : World} where
   abbrev pub memory_of_members : {next : World} → ChangesMembers p w next → Memory → Memory
   memory_of_members (starts_member {f = f} {group = group} g h b values groups work free is_in is_at foreign) m =
       let s = with_member w.store h (Some group) in
-      let o = with_root m.origins h record { literal = Some b; given = value_given s b values f.newest } in
+      let o = with_root m.origins h (root_of s b values groups f.newest) in
       record {
         origins = with_block o s.cell_count;
         pasts = put_at (put_at m.pasts g (pasts_behind (m.pasts g) work.does_next.comes_to)) h
@@ -231,15 +262,42 @@ module _ {p : Program} {w : World} where
   memory_of_environment (makes_outside context earlier) m = m
   memory_of_environment (joins_outside g a free made) m = record m { origins = with_root m.origins g no_root }
 
+  abbrev pub memory_of_go : {next : World} → StartsGoroutine p w next → Memory → Memory
+  memory_of_go (starts_call {f = f} {v = v} g sets) m = record {
+    origins = record (m.origins) { to_call = to_call_too (held w.store f v) m.origins.to_call };
+    pasts = put_at m.pasts g (pasts_behind (m.pasts g) sets.does_next.comes_to);
+  }
+  memory_of_go (starts_function g h b values groups sets free is fits) m =
+      let o = with_begun m.origins (root_of w.store b values groups nothing_around) in
+      record {
+        origins = with_block o w.store.cell_count;
+        pasts = put_at (put_at m.pasts g (pasts_behind (m.pasts g) sets.does_next.comes_to)) h
+            (no_past o w.store b values groups nothing_around ∷ []);
+      }
+  memory_of_go (starts_foreign {f = f} {callee = callee} {xs = xs} g sets no_body) m = record {
+    origins = record (m.origins) {
+      to_call = declared_too p callee (sending w.store f callee xs).given m.origins.to_call;
+    };
+    pasts = put_at m.pasts g (pasts_behind (m.pasts g) sets.does_next.comes_to);
+  }
+  memory_of_go (starts_its_literal {f = f} g h b values groups sets free is_in is_at foreign) m =
+      let o = with_begun m.origins (root_of w.store b values groups f.newest) in
+      record {
+        origins = with_block o w.store.cell_count;
+        pasts = put_at (put_at m.pasts g (pasts_behind (m.pasts g) sets.does_next.comes_to)) h
+            (no_past o w.store b values groups f.newest ∷ []);
+      }
+
   abbrev pub memory_after : {next : World} → Step p w next → Memory → Memory
   memory_after (of_goroutine g running acts) m = record {
     origins = origins_after acts m.origins;
     pasts = put_at m.pasts g (pasts_after acts m.origins (first_past (m.pasts g)) ++ later_pasts (m.pasts g));
   }
   memory_after (of_members changes) m = memory_of_members changes m
+  memory_after (of_go going) m = memory_of_go going m
   memory_after (of_environment surrounds) m = memory_of_environment surrounds m
 
--- what is remembered after a run
-abbrev pub memory_of : {p : Program} {w : World} → Run p w → Memory
-memory_of no_step = empty_memory
-memory_of (step_more run step) = memory_after step (memory_of run)
+-- what is remembered after a run, of what stands at least so deep
+abbrev pub memory_of : {p : Program} {w : World} → ℕ → Run p w → Memory
+memory_of least no_step = empty_memory least
+memory_of least (step_more run step) = memory_after step (memory_of least run)

@@ -2,17 +2,17 @@
 use Rattle.std.proofs.Common.{◌≡◌, ℕ, ◌+◌, ◌<◌, Bool, true, false, cond, ◌⊎◌, inl, inr, List, [], ◌∷◌, ◌++◌, Option, Some, None, Contains, refl, sym, ap, ◌∙◌, subst, append_assoc, append-nil, true≢false, arith}
 use Rattle.meaning.specs.Code.{Occurrence, Code}
 use Rattle.meaning.specs.Lists.{Exit}
-use Rattle.meaning.specs.Uses.{Callee, VariableAt, Event, other, obtain, clear, call, defer_call, pass, defer_pass, lend, start, try, wait, defer_wait, make, defer_literal, return_event, obtain_kept, renew, keep, call_kept, defer_kept, give, give_field}
+use Rattle.meaning.specs.Uses.{Callee, VariableAt, Event, other, obtain, clear, call, defer_call, pass, defer_pass, lend, start, try, wait, defer_wait, make, defer_literal, go_call, go_pass, go_literal, go, return_event, obtain_kept, renew, keep, call_kept, defer_kept, give, give_field}
 use Rattle.meaning.proofs.Membership.{contains_here, contains_there, contains_cases, contains_nil}
 use Rattle.meaning_reports.specs.Loaded.{known_in, trees_of}
 use Rattle.meaning_runs.specs.Bodies.{Program, Body, IsOf, IsOutermost, is_parameter_of, is_captured_by, code_of}
 use Rattle.meaning_runs.specs.World.{Value, nothing, cancel_function, any_nothing, outside, outside_group, Store, put_at, with_new, calling, ending, waiting_for, MayEndWait, Given, Saved, runs, exits, InObject, Frame, World, empty_world, with_stack, frame_at as frame_at_place, with_group, with_cells, with_member, own_cell, kept_value, is_declaration, cell_or, group_in_cell, held, held_group, binding, binds, bound_cell, binding_group}
 use Rattle.meaning_runs.specs.Moves.{Moves}
-use Rattle.meaning_runs.specs.Steps.{ComesTo, DoesNext, Starts, new_one, zero_group, with_context, is_first, WasCalled, HasNoBody, at_once, of_none, Acts, moves_on, does_other, obtains_one, obtains_into, keeps_one, renews_object, calls_kept, saves_kept, gives_object, gives_in_field, clears_one, calls_one, saves_call, makes_group, tries_nothing, ends_wait, saves_wait, evaluates, evaluates_deferred, lends, makes_call, calls_outside, saves_pass, saves_literal, comes_to_return, Makes, IsFree, by_start, starts_member, starts_stranger, leaves_group, starts, makes_outside, of_goroutine, of_members, of_environment}
+use Rattle.meaning_runs.specs.Steps.{StartsGoroutine, past_go, starts_call, starts_foreign, starts_its_literal, of_go, ComesTo, DoesNext, Starts, new_one, zero_group, with_context, is_first, WasCalled, HasNoBody, at_once, of_none, Acts, moves_on, does_other, obtains_one, obtains_into, keeps_one, renews_object, calls_kept, saves_kept, gives_object, gives_in_field, clears_one, calls_one, saves_call, makes_group, tries_nothing, ends_wait, saves_wait, evaluates, evaluates_deferred, lends, makes_call, calls_outside, saves_pass, saves_literal, comes_to_return, Makes, IsFree, by_start, starts_member, starts_stranger, leaves_group, starts, makes_outside, of_goroutine, of_members, of_environment}
 use Rattle.meaning_runs.specs.Runs.{Run, no_step, step_more}
 use Rattle.meaning_runs.specs.Doings.{Does, stays, silently, by_event, CanDo}
 use Rattle.meaning_runs.specs.Laws.{HoldsGroup, IsThere, HasFreeGoroutine}
-use Rattle.meaning_runs.specs.RunLists.{events_of, events_of_act, IsRunnable, hold_after, HasItsGroup, GroupsComeFirst, is_wait, is_start_of_literal, WaitsComeFirst, is_return, ReturnsComeLast, ends_in_return, HasGoneThrough, ListsAreRun, BodiesAreOfTexts, IsRunnableOfText, ListsOfTextsAreRun}
+use Rattle.meaning_runs.specs.RunLists.{events_of, events_of_act, events_of_go, IsRunnable, hold_after, HasItsGroup, GroupsComeFirst, is_wait, is_start_of_literal, WaitsComeFirst, is_return, ReturnsComeLast, ends_in_return, HasGoneThrough, ListsAreRun, BodiesAreOfTexts, IsRunnableOfText, ListsOfTextsAreRun}
 use Rattle.meaning_runs.proofs.Adequacy.{list_is_done}
 use Rattle.meaning_runs.proofs.Contexts.{put_at-same, put_at-other}
 use Rattle.meaning_runs.proofs.FreeGoroutines.{acting_members, calling_members, goroutines_are_free, none_given}
@@ -21,7 +21,7 @@ use Rattle.std.proofs.lemmas.Bool.{cases_eq}
 use Rattle.meaning.specs.Tracked.{GroupState, idle, live}
 use Rattle.meaning_runs.proofs.TrackedBindings.{of_number}
 use Rattle.meaning_runs.proofs.LastReturns.{returns_are_last}
-use Rattle.meaning_runs.proofs.DeferredLiterals.{deferred_literals_are_there}
+use Rattle.meaning_runs.proofs.DeferredLiterals.{deferred_literals_are_there, gone_literals_are_there}
 use Rattle.meaning_runs.proofs.StartedLiterals.{started_literals_are_there}
 
 is_or_not : (r : Bool) → (r ≡ true) ⊎ (r ≡ false)
@@ -322,6 +322,53 @@ module _ (p : Program) (b : Body) where
             let l = h.cells_in n k is in
             (it.0, ap (group_in_cell after n) is ∙ ap (λ (q : ℕ → Option ℕ). q n) (put_at-other h.world.store.holds h.world.store.cell_count (λ x. None) k (λ q. omega (arith, l, q))) ∙ ap (group_in_cell h.world.store n) (sym is) ∙ it.1)
 
+    -- a goroutine starts that runs outside
+    calling_too : (e : Event) (calls : List ℕ) (s : StartsGoroutine p h.world (record (past_go h.world 0 f [] d) { to_call = calls })) → events_of_go s ≡ record { at = at; order = order; event = e } ∷ [] → ComesSoFar hold is_idle (with_event done at order e) d
+    calling_too e calls s es = record {
+      world = _;
+      run = step_more h.run (of_go s);
+      newest = h.newest;
+      saved = h.saved;
+      obtained = h.obtained;
+      made = h.made;
+      kept = h.kept;
+      given = h.given;
+      is_only = refl;
+      has_events = ap (λ l. l ++ events_of_go s) h.has_events ∙ ap (λ l. done ++ l) es;
+      cells_in = h.cells_in;
+      hold_groups = h.hold_groups;
+      no_members = h.no_members;
+    }
+
+    -- or one that runs a literal
+    gone_literal_of : (offset : ℕ) → Moves c (Some record { at = at; order = order; event = go (go_literal offset) }) d → (free : HasFreeGoroutine h.world) → IsThere b (Some offset) → ComesSoFar hold is_idle (with_event done at order (go (go_literal offset))) d
+    gone_literal_of offset m free there =
+        let step = starts_its_literal 0 free.0 there.0 (λ n. nothing) (λ n. None) record { is_running = h.is_only; does_next = next c d _ at order (go (go_literal offset)) refl refl m } free.1 there.1 there.2 (none_given h.world.store) in
+        record {
+          world = _;
+          run = step_more h.run (of_go step);
+          newest = h.newest;
+          saved = h.saved;
+          obtained = h.obtained;
+          made = h.made;
+          kept = h.kept;
+          given = h.given;
+          is_only = put_at-other (put_at h.world.stacks 0 _) free.0 _ 0 (not_it free.0 free.1);
+          has_events = ap (λ l. with_event l at order (go (go_literal offset))) h.has_events;
+          cells_in = λ n i e. let l = h.cells_in n i e in omega (arith, l);
+          hold_groups = λ n e. still_holds n (h.newest n) refl (h.hold_groups n e);
+          no_members = h.no_members;
+        }
+      where
+        after : Store
+        after = with_cells h.world.store (λ x. nothing) (λ x. None)
+
+        still_holds : (n : ℕ) (o : Option ℕ) → h.newest n ≡ o → HoldsGroup h.world.store f n → HoldsGroup after f n
+        still_holds n None is it = let bad : None ≡ Some it.0 = ap (group_in_cell h.world.store n) (sym is) ∙ it.1 in absurd (no_group_in it.0 bad)
+        still_holds n (Some k) is it =
+            let l = h.cells_in n k is in
+            (it.0, ap (group_in_cell after n) is ∙ ap (λ (q : ℕ → Option ℕ). q n) (put_at-other h.world.store.holds h.world.store.cell_count (λ x. None) k (λ q. omega (arith, l, q))) ∙ ap (group_in_cell h.world.store n) (sym is) ∙ it.1)
+
   -- a variable that is bound to no group holds none
   unbound : (hold : ℕ → Bool) (u v : ℕ) → put_at hold u false v ≡ true → (v ≡ u → ⊥) × (hold v ≡ true)
   unbound hold u v e = by (cases_eq v u)
@@ -401,6 +448,16 @@ module _ (p : Program) (b : Body) where
     past (make u live) m k i w n = with_made u live _ _ refl refl (with_context None tt) m
     past (defer_literal offset) m k i w n =
         with_same (defer_literal offset) _ _ _ _ (saves_literal k.0 (next c d _ at order (defer_literal offset) refl refl m) k.1 k.2) refl refl refl
+    past (go (go_call v)) m k i w n =
+        let e = go (go_call v) in
+        calling_too hold is_idle done c d at order h e _
+        (starts_call 0 record { is_running = h.is_only; does_next = next c d _ at order e refl refl m }) refl
+    past (go (go_pass g xs)) m k i w n =
+        let e = go (go_pass g xs) in
+        calling_too hold is_idle done c d at order h e _
+        (starts_foreign 0 record { is_running = h.is_only; does_next = next c d _ at order e refl refl m } k) refl
+    past (go (go_literal offset)) m k i w n =
+        gone_literal_of hold is_idle done c d at order h offset m (goroutines_are_free p h.world h.run) k
     past (return_event handed) m k i w n = absurd (true≢false n)
 
   -- a return is taken, whatever is left
@@ -436,6 +493,7 @@ module _ (p : Program) (b : Body) where
   returned hold is_idle done c d rest at order (defer_wait v) m n h = absurd (true≢false (sym n))
   returned hold is_idle done c d rest at order (make v state) m n h = absurd (true≢false (sym n))
   returned hold is_idle done c d rest at order (defer_literal offset) m n h = absurd (true≢false (sym n))
+  returned hold is_idle done c d rest at order (go work) m n h = absurd (true≢false (sym n))
 
   -- one more event in front
   after_one : (done t : List (Occurrence Event)) (o : Occurrence Event) (rest : Code Event) → ends_in_return (o ∷ t) ≡ ends_in_return t → ComesToEnd (done ++ o ∷ []) t rest → ComesToEnd done (o ∷ t) rest
@@ -543,36 +601,41 @@ bodies_are_of_texts p b of texts =
 
 runnable_of_text : (p : Program) (b : Body) (e : Event)
     → ((at : ℕ) → e ≡ defer_literal at → IsThere b (Some at))
+    → ((at : ℕ) → e ≡ go (go_literal at) → IsThere b (Some at))
     → ((v at : ℕ) → Starts e v (Some at) → IsThere b (Some at))
     → IsRunnableOfText p b e
     → IsRunnable p b e
-runnable_of_text p b (defer_literal at) there started h = there at refl
-runnable_of_text p b other there started h = h
-runnable_of_text p b (obtain u c n is_new) there started h = h
-runnable_of_text p b (clear u) there started h = h
-runnable_of_text p b (obtain_kept u c n x) there started h = h
-runnable_of_text p b (renew v x) there started h = h
-runnable_of_text p b (keep v x) there started h = h
-runnable_of_text p b (call_kept v x) there started h = h
-runnable_of_text p b (defer_kept v x) there started h = h
-runnable_of_text p b (give v x) there started h = h
-runnable_of_text p b (give_field v) there started h = h
-runnable_of_text p b (call v) there started h = h
-runnable_of_text p b (defer_call v) there started h = h
-runnable_of_text p b (pass u c n) there started h = h
-runnable_of_text p b (defer_pass u c n) there started h = h
-runnable_of_text p b (lend g c n) there started h = h
-runnable_of_text p b (start g None) there started h = tt
-runnable_of_text p b (start g (Some at)) there started h = started g at by_start
-runnable_of_text p b (try g literal) there started h = h
-runnable_of_text p b (wait g) there started h = h
-runnable_of_text p b (defer_wait g) there started h = h
-runnable_of_text p b (make u state) there started h = h
-runnable_of_text p b (return_event handed) there started h = h
+runnable_of_text p b (defer_literal at) there gone started h = there at refl
+runnable_of_text p b (go (go_call v)) there gone started h = h
+runnable_of_text p b (go (go_pass f xs)) there gone started h = h
+runnable_of_text p b (go (go_literal at)) there gone started h = gone at refl
+runnable_of_text p b other there gone started h = h
+runnable_of_text p b (obtain u c n is_new) there gone started h = h
+runnable_of_text p b (clear u) there gone started h = h
+runnable_of_text p b (obtain_kept u c n x) there gone started h = h
+runnable_of_text p b (renew v x) there gone started h = h
+runnable_of_text p b (keep v x) there gone started h = h
+runnable_of_text p b (call_kept v x) there gone started h = h
+runnable_of_text p b (defer_kept v x) there gone started h = h
+runnable_of_text p b (give v x) there gone started h = h
+runnable_of_text p b (give_field v) there gone started h = h
+runnable_of_text p b (call v) there gone started h = h
+runnable_of_text p b (defer_call v) there gone started h = h
+runnable_of_text p b (pass u c n) there gone started h = h
+runnable_of_text p b (defer_pass u c n) there gone started h = h
+runnable_of_text p b (lend g c n) there gone started h = h
+runnable_of_text p b (start g None) there gone started h = tt
+runnable_of_text p b (start g (Some at)) there gone started h = started g at by_start
+runnable_of_text p b (try g literal) there gone started h = h
+runnable_of_text p b (wait g) there gone started h = h
+runnable_of_text p b (defer_wait g) there gone started h = h
+runnable_of_text p b (make u state) there gone started h = h
+runnable_of_text p b (return_event handed) there gone started h = h
 
 pub lists_of_texts_are_run : ListsOfTextsAreRun
 lists_of_texts_are_run p b t x of out text lists each groups waits =
     lists_are_run p b t x of out lists (λ o among. runnable_of_text p b o.event
     (λ at. deferred_literals_are_there b t x o at text lists among)
+    (λ at. gone_literals_are_there b t x o at text lists among)
     (λ v at. started_literals_are_there b t x o v at text lists among) (each o among))
     groups waits (returns_are_last b t x text of.is_body lists)

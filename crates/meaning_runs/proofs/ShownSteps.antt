@@ -32,8 +32,8 @@ pub chosen_false : {A : Type 0} (b : Bool) (y z : A) → b ≡ false → (if b t
 chosen_false b y z e = ap (λ c. cond c y z) e
 
 -- a world of these parts
-abbrev pub W : Store → (ℕ → List Frame) → List Closure → World
-W s st e = record { store = s; stacks = st; escaped = e }
+abbrev pub W : Store → (ℕ → List Frame) → List Closure → List ℕ → World
+W s st e calls = record { store = s; stacks = st; escaped = e; to_call = calls }
 
 pub put_none : (st : ℕ → List Frame) (g : ℕ) (l : List Frame) → st g ≡ [] → l ≡ [] → st ≡ put_at st g l
 put_none st g l none empty = λ j h. at h j
@@ -57,7 +57,7 @@ module _ (p : Program) (closed : AreAmong p) (distinct : HaveDistinctPaths p.pac
   no_body caller f none b is = none b record { is_of = of_all b is.is_of; is_of_package = is.is_of_package; has_name = is.has_name }
 
   -- what a shown frame calls is shown
-  called_is_run : (caller b : Body) (f : Callee) → IsOf (all_run p) caller → T p caller.home ≡ true
+  pub called_is_run : (caller b : Body) (f : Callee) → IsOf (all_run p) caller → T p caller.home ≡ true
       → HandsThere caller.file f
       → IsFunction (all_run p) caller f b
       → T p b.home ≡ true

@@ -6,7 +6,7 @@ use Rattle.std.specs.Prelude.{◌==◌, ◌-◌}
 use Rattle.std.proofs.lemmas.List.Elements.{Contains-append_left, Contains-append_cases}
 use Rattle.std.proofs.lemmas.Bool.{false_from_ne_true}
 use Rattle.tree.specs.Syntax.{Expressions}
-use Rattle.meaning.specs.Mentions.{BodyPlace, Mark, mentions, defers_literal, returns, opens, closes, in_body, of_fields}
+use Rattle.meaning.specs.Mentions.{BodyPlace, Mark, mentions, runs_literal, returns, opens, closes, in_body, of_fields}
 use Rattle.meaning.specs.BodyEvents.{is_site}
 use Rattle.meaning.proofs.Membership.{contains_cases, contains_nil, contains_here, contains_there}
 use Rattle.meaning_runs.proofs.Places.{eqb_is}
@@ -82,7 +82,7 @@ pub record Sited (own : Around) (lo hi : ℕ) (asks : List CodeSite) (ms : List 
 abbrev pub IsOwn : Around → Mark → Type 0
 IsOwn own (mentions m) = IsAround own m.site
 IsOwn own (of_fields site m) = IsAround own site
-IsOwn own (defers_literal site at) = IsAround own site
+IsOwn own (runs_literal moment site at) = IsAround own site
 IsOwn own mark = ⊥
 
 -- so is that of each of them
@@ -104,7 +104,7 @@ AreMentions own (m ∷ ms) = IsMention own m × AreMentions own ms
 pub mention_is_own : (own : Around) (m : Mark) → IsMention own m → IsOwn own m
 mention_is_own own (mentions m) h = h
 mention_is_own own (of_fields site m) h = h
-mention_is_own own (defers_literal site at) h = absurd h
+mention_is_own own (runs_literal moment site at) h = absurd h
 mention_is_own own (returns site es) h = absurd h
 mention_is_own own (opens b) h = absurd h
 mention_is_own own closes h = absurd h
@@ -123,7 +123,7 @@ own_among own (n ∷ ms) m h among = elim (contains_cases n m ms among) [
 own_site : (own : Around) (m : Mark) (s : ℕ) → IsOwn own m → is_site m s ≡ true → IsAround own s
 own_site own (mentions m) s h e = subst (λ (n : ℕ). IsAround own n) (eqb_is m.site s e) h
 own_site own (of_fields site m) s h e = subst (λ (n : ℕ). IsAround own n) (eqb_is site s e) h
-own_site own (defers_literal site at) s h e = subst (λ (n : ℕ). IsAround own n) (eqb_is site s e) h
+own_site own (runs_literal moment site at) s h e = subst (λ (n : ℕ). IsAround own n) (eqb_is site s e) h
 own_site own (returns site es) s h e = absurd h
 own_site own (opens b) s h e = absurd h
 own_site own closes s h e = absurd h
@@ -131,7 +131,7 @@ own_site own closes s h e = absurd h
 follows_own : (own : Around) (m n : Mark) → IsOwn own m → MayFollow m n
 follows_own own (mentions m) n h = tt
 follows_own own (of_fields site m) n h = tt
-follows_own own (defers_literal site at) n h = tt
+follows_own own (runs_literal moment site at) n h = tt
 follows_own own (returns site es) n h = absurd h
 follows_own own (opens b) n h = absurd h
 follows_own own closes n h = absurd h
@@ -207,7 +207,7 @@ asked_mention asks (n ∷ ms) m h among = elim (contains_cases n m ms among) [
 asked_site : (asks : List CodeSite) (m : Mark) (s : ℕ) → IsAskedMention asks m → is_site m s ≡ true → Contains asks (asked_at s)
 asked_site asks (mentions m) s h e = subst (λ (n : ℕ). Contains asks (asked_at n)) (eqb_is m.site s e) h
 asked_site asks (of_fields site m) s h e = subst (λ (n : ℕ). Contains asks (asked_at n)) (eqb_is site s e) h
-asked_site asks (defers_literal site at) s h e = absurd h
+asked_site asks (runs_literal moment site at) s h e = absurd h
 asked_site asks (returns site es) s h e = absurd h
 asked_site asks (opens b) s h e = absurd h
 asked_site asks closes s h e = absurd h
@@ -215,7 +215,7 @@ asked_site asks closes s h e = absurd h
 asked_follows : (asks : List CodeSite) (m n : Mark) → IsAskedMention asks m → MayFollow m n
 asked_follows asks (mentions m) n h = tt
 asked_follows asks (of_fields site m) n h = tt
-asked_follows asks (defers_literal site at) n h = tt
+asked_follows asks (runs_literal moment site at) n h = tt
 asked_follows asks (returns site es) n h = absurd h
 asked_follows asks (opens b) n h = absurd h
 asked_follows asks closes n h = absurd h
@@ -305,7 +305,7 @@ module _ {own : Around} {lo hi low high : ℕ} {qs rs : List CodeSite} {ms ns : 
   across : (m n : Mark) → Contains ms m → Contains ns n → MayFollow m n
   across (mentions m) n x y = tt
   across (of_fields site m) n x y = tt
-  across (defers_literal site at) n x y = tt
+  across (runs_literal moment site at) n x y = tt
   across (returns s es) n x y = false_from_ne_true (is_site n s) λ e.
       let r = h.returning s es x in
       elim (k.sites n s y e) [ inl z ↦ r.0 z | inr z ↦ apart s s r.1 r.2 z.0 z.1 refl ]
@@ -574,7 +574,7 @@ returns_follow : (n : ℕ) (es : Expressions) (ms : List Mark)
     → MayFollow m k
 returns_follow n es ms before (mentions m) k x y = tt
 returns_follow n es ms before (of_fields site m) k x y = tt
-returns_follow n es ms before (defers_literal site at) k x y = tt
+returns_follow n es ms before (runs_literal moment site at) k x y = tt
 returns_follow n es ms before (returns s fs) k x y = elim (contains_cases (returns n es) k [] y) [
   | inl e ↦ subst (λ (q : Mark). is_site q s ≡ false) e (eqb_not n s λ same. omega (arith, before s fs x, same))
   | inr none ↦ absurd (contains_nil k none)
@@ -685,7 +685,7 @@ asked_of_body b ms s (inr w) = elim (of_body b w.body ms w.opened) [
 follows_closes : (m n : Mark) → Contains (closes ∷ []) n → MayFollow m n
 follows_closes (mentions m) n x = tt
 follows_closes (of_fields site m) n x = tt
-follows_closes (defers_literal site at) n x = tt
+follows_closes (runs_literal moment site at) n x = tt
 follows_closes (returns s es) n x = elim (contains_cases closes n [] x) [
   | inl e ↦ subst (λ (q : Mark). is_site q s ≡ false) e refl
   | inr none ↦ absurd (contains_nil n none)

@@ -1,5 +1,5 @@
 -- How each change of a store makes it grow, and what stays so where a store grows.
-use Rattle.std.proofs.Common.{◌≡◌, ℕ, ◌+◌, ◌<◌, ◌≤◌, ◌⊎◌, inl, inr, true, false, List, ◌∷◌, Option, Some, None, Contains, refl, sym, ap, ◌∙◌, subst, arith}
+use Rattle.std.proofs.Common.{◌≡◌, ℕ, ◌+◌, ◌<◌, ◌≤◌, ◌⊎◌, inl, inr, Bool, true, false, List, ◌∷◌, Option, Some, None, Contains, refl, sym, ap, ◌∙◌, subst, arith}
 use Rattle.std.proofs.lemmas.Bool.{true≢false, cases_eq}
 use Rattle.std.proofs.lemmas.Option.{none-some, same_Some}
 use Rattle.meaning.proofs.Membership.{contains_there}
@@ -7,7 +7,7 @@ use Rattle.meaning_runs.specs.Bodies.{Body}
 use Rattle.meaning_runs.specs.World.{Value, nothing, cancel_function, Maker, nobody, outside, frame_at, Place, Store, put_at, with_new, calling, ending, with_group, with_member, waiting_for, with_cells, in_cell, group_in_cell}
 use Rattle.meaning_runs.proofs.Contexts.{put_at-same, put_at-other}
 use Rattle.meaning_runs.proofs.GroupDuties.{is_mentioned}
-use Rattle.meaning_runs.proofs.Remembered.{Root, Origins, written, with_block}
+use Rattle.meaning_runs.proofs.Remembered.{Root, Origins, written, with_block, with_begun, with_root}
 use Rattle.meaning_runs.proofs.Holders.{IsSafe, Grows, IsKnown}
 
 pub frame-nobody : (q : Place) → frame_at q ≡ nobody → ⊥
@@ -105,16 +105,22 @@ contexts_grow at o s after h = record {
   same_frozen = λ k l. refl;
   same_maker = λ a known. ap (λ (m : ℕ → Maker). m a) h.same_maker;
   same_context = λ a known. ap (λ (c : ℕ → Option ℕ). c a) h.same_group_context;
+  more_begun = λ r h. h;
+  still_gone = λ h. h;
+  more_to_call = λ a h. h;
+  same_least = refl;
 }
 
 -- groups and members alone change, and what is remembered of goroutines
-same_blocks : (at : Maker) (o : Origins) (s : Store) (roots : ℕ → Root) (maker : ℕ → Maker)
+same_blocks : (at : Maker) (o : Origins) (s : Store) (roots : ℕ → Root) (begun : List Root) (has_gone : Bool) (maker : ℕ → Maker)
     (context : ℕ → Option ℕ) (count : ℕ) (member : ℕ → Option ℕ)
     → ((a : ℕ) → (s.maker a ≡ nobody → ⊥) → maker a ≡ s.maker a)
     → ((a : ℕ) → (s.maker a ≡ nobody → ⊥) → context a ≡ s.group_context a)
-    → Grows at o (record o { root = roots }) s
+    → ((r : Root) → Contains o.begun r → Contains begun r)
+    → (o.has_gone ≡ true → has_gone ≡ true)
+    → Grows at o (record o { root = roots; begun = begun; has_gone = has_gone }) s
     (record s { maker = maker; group_context = context; group_count = count; member = member })
-same_blocks at o s roots maker context count member makers contexts = record {
+same_blocks at o s roots begun has_gone maker context count member makers contexts more gone = record {
   called = λ a h. h;
   ended = λ a h. h;
   same_cells = λ k v l i. refl;
@@ -124,14 +130,51 @@ same_blocks at o s roots maker context count member makers contexts = record {
   same_frozen = λ k l. refl;
   same_maker = makers;
   same_context = contexts;
+  more_begun = more;
+  still_gone = gone;
+  more_to_call = λ a h. h;
+  same_least = refl;
 }
 
--- a goroutine becomes a member or leaves
-pub member_grows : (at : Maker) (o : Origins) (s : Store) (roots : ℕ → Root) (g : ℕ) (group : Option ℕ)
-    → Grows at o (record o { root = roots }) s (with_member s g group)
-member_grows at o s roots g group =
-    same_blocks at o s roots s.maker s.group_context s.group_count (put_at s.member g group) (λ a has. refl)
-    (λ a has. refl)
+-- a goroutine becomes a member
+pub member_grows : (at : Maker) (o : Origins) (s : Store) (root : Root) (g : ℕ) (group : Option ℕ)
+    → Grows at o (with_root o g root) s (with_member s g group)
+member_grows at o s root g group =
+    same_blocks at o s (put_at o.root g root) (root ∷ o.begun) o.has_gone s.maker s.group_context s.group_count
+    (put_at s.member g group) (λ a has. refl) (λ a has. refl) (λ r h. contains_there root r o.begun h) (λ h. h)
+
+-- or leaves
+pub member_leaves : (at : Maker) (o : Origins) (s : Store) (g : ℕ) (group : Option ℕ)
+    → Grows at o o s (with_member s g group)
+member_leaves at o s g group =
+    same_blocks at o s o.root o.begun o.has_gone s.maker s.group_context s.group_count (put_at s.member g group) (λ a has. refl)
+    (λ a has. refl) (λ r h. h) (λ h. h)
+
+-- a goroutine is started
+pub begun_grows : (at : Maker) (o : Origins) (s : Store) (root : Root) → Grows at o (with_begun o root) s s
+begun_grows at o s root =
+    same_blocks at o s o.root (root ∷ o.begun) true s.maker s.group_context s.group_count s.member
+    (λ a has. refl) (λ a has. refl) (λ r h. contains_there root r o.begun h) (λ h. refl)
+
+-- or runs outside, to call these
+pub calls_grow : (at : Maker) (o : Origins) (s : Store) (calls : List ℕ)
+    → ((a : ℕ) → Contains o.to_call a → Contains calls a)
+    → Grows at o (record o { to_call = calls }) s s
+calls_grow at o s calls more = record {
+  called = λ a h. h;
+  ended = λ a h. h;
+  same_cells = λ k v l i. refl;
+  same_holds = λ k v l i. refl;
+  counts = omega arith;
+  same_owner = λ k l. refl;
+  same_frozen = λ k l. refl;
+  same_maker = λ a has. refl;
+  same_context = λ a has. refl;
+  more_begun = λ r h. h;
+  still_gone = λ h. h;
+  more_to_call = more;
+  same_least = refl;
+}
 
 older : (k count : ℕ) → k < count → k ≡ count → ⊥
 older k count l e = omega (arith, e, l)
@@ -151,6 +194,10 @@ block_grows at o s values groups = record {
   same_frozen = λ k l. put_at-other o.is_frozen s.cell_count true k (older k s.cell_count l);
   same_maker = λ a known. refl;
   same_context = λ a known. refl;
+  more_begun = λ r h. h;
+  still_gone = λ h. h;
+  more_to_call = λ a h. h;
+  same_least = refl;
 }
 
 -- the number of the next group is not that of one that is there
@@ -160,10 +207,11 @@ fresh_other s known a has e = has (known.is_fresh a (omega (arith, e)))
 pub group_grows : (at : Maker) (o : Origins) (s : Store) (maker : Maker) (context : Option ℕ) → IsKnown s
     → Grows at o o s (with_group s maker context)
 group_grows at o s maker context known =
-    same_blocks at o s o.root (put_at s.maker s.group_count maker) (put_at s.group_context s.group_count context)
+    same_blocks at o s o.root o.begun o.has_gone (put_at s.maker s.group_count maker) (put_at s.group_context s.group_count context)
     (s.group_count + 1) s.member
     (λ a has. put_at-other s.maker s.group_count maker a (fresh_other s known a has))
-    (λ a has. put_at-other s.group_context s.group_count context a (fresh_other s known a has))
+    (λ a has. put_at-other s.group_context s.group_count context a (fresh_other s known a has)) (λ r h. h)
+    (λ h. h)
 
 -- the contents of blocks are these now, and the next block gets a higher number
 abbrev pub with_contents : Store → (ℕ → ℕ → Value) → (ℕ → ℕ → Option ℕ) → Store
@@ -224,6 +272,10 @@ module _ (o : Origins) (s : Store) (place : Place) (b : Body) (v : ℕ) where
     same_frozen = λ j l. frozen_stays j k l (cases_eq j k) writable;
     same_maker = λ a known. refl;
     same_context = λ a known. refl;
+    more_begun = λ r h. h;
+    still_gone = λ h. h;
+    more_to_call = λ a h. h;
+    same_least = refl;
   }
 
   pub writing_known : (k : ℕ) (cells : ℕ → ℕ → Value) (holds : ℕ → ℕ → Option ℕ)
@@ -263,6 +315,10 @@ module _ (at : Maker) (o o1 o2 : Origins) (s s1 s2 : Store) (first : Grows at o 
     same_maker = λ a has. second.same_maker a (λ e. has (sym (first.same_maker a has) ∙ e)) ∙ first.same_maker a has;
     same_context = λ a has. second.same_context a (λ e. has (sym (first.same_maker a has) ∙ e))
         ∙ first.same_context a has;
+    more_begun = λ r h. second.more_begun r (first.more_begun r h);
+    still_gone = λ h. second.still_gone (first.still_gone h);
+    more_to_call = λ a h. second.more_to_call a (first.more_to_call a h);
+    same_least = second.same_least ∙ first.same_least;
   }
 
 -- What is known of numbers

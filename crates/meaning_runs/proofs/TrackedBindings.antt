@@ -10,9 +10,9 @@ use Rattle.meaning.specs.Scopes.{is_blank}
 use Rattle.meaning.specs.Code.{Occurrence}
 use Rattle.meaning.specs.Lists.{Reaches}
 use Rattle.meaning.specs.FunctionFacts.{VariableKind, cancel, group, CancelResult}
-use Rattle.meaning.specs.Mentions.{Named, RowForm, defines, assigns, declares, Row, Role, elsewhere, as_key, called, called_in_brackets, argument, returned, left, names_type, new_literal, parameter_pointer, Mention, BodyPlace, Mark, mentions, defers_literal, returns, opens, closes, exposed, found_nil, found_error, is_none_left, pointed_to, of_fields}
+use Rattle.meaning.specs.Mentions.{Named, RowForm, defines, assigns, declares, Row, Role, elsewhere, as_key, called, called_in_brackets, argument, returned, left, names_type, new_literal, parameter_pointer, Mention, BodyPlace, Mark, mentions, runs_literal, returns, opens, closes, exposed, found_nil, found_error, is_none_left, pointed_to, of_fields}
 use Rattle.meaning.specs.Tracked.{Known, Giving, Left, local_at, lefts_of, may_bind, if_first, made_by_form, blank_left, name_left, left_name, left_local, local_meant_or, variable_of, is_given, are_locals, row_giving, obtains_there, row_obtains, GroupState, row_makes, Placed, LocalRole, parameter, receiver, variadic, result, in_block, Local, kind_of_local, made_by_type, made_by_pair, some_keep, is_outer_left, is_outer_at}
-use Rattle.meaning.specs.Uses.{Seen, is_group, is_group_or_none, found, kind_of, may_be_tracked, tracked_kind, VariableAt, Event, other, defer_literal, return_event, Binding, obtained, cleared, made, is_cancel, kind_at, are_cancels, row_binds, row_clears, are_groups, is_second_free, made_binding, binding_at, binding_event, binding_outcome, row_outcome, role_outcome, local_outcome, is_own}
+use Rattle.meaning.specs.Uses.{Seen, is_group, is_group_or_none, found, kind_of, may_be_tracked, tracked_kind, VariableAt, Event, other, return_event, Binding, obtained, cleared, made, is_cancel, kind_at, are_cancels, row_binds, row_clears, are_groups, is_second_free, made_binding, binding_at, binding_event, binding_outcome, row_outcome, role_outcome, local_outcome, is_own}
 use Rattle.meaning.specs.BodyEvents.{handed_on, mark_events, seen_file}
 use Rattle.meaning.proofs.Membership.{contains_here, contains_there, contains_cases, contains_nil}
 use Rattle.meaning_packages.specs.PathFaults.{BindsCancel, obtains, obtains_into, clears}
@@ -21,7 +21,7 @@ use Rattle.meaning_runs.specs.Bodies.{Program, Body, IsOf, code_of}
 use Rattle.meaning_runs.specs.EventSources.{HasSource, says_nothing, falls_off, of_mark, IsBound, BindingsAreTracked}
 use Rattle.meaning_runs.proofs.Places.{eqb_is}
 use Rattle.meaning_runs.proofs.EventSources.{events_have_sources}
-use Rattle.meaning_runs.proofs.Bindings.{Binds, binds_so, kind_bound, bound_number, no_binding, single, mention_harmless, of_variable, object_binds_own}
+use Rattle.meaning_runs.proofs.Bindings.{Binds, binds_so, kind_bound, bound_number, no_binding, single, run_binds_nothing, mention_harmless, of_variable, object_binds_own}
 use Rattle.meaning_runs.proofs.KeptEvents.{is_cancel_kind, IsOfObject, by_renew, by_call, by_deferred, by_give, by_keep, by_outer, by_obtaining, by_gift, field_events_are}
 use Rattle.meaning_runs.proofs.OwnVariables.{found_is}
 use Rattle.meaning_runs.proofs.LeftSides.{Fits, Stands, left_sides_fit}
@@ -287,7 +287,7 @@ by_mark seen bodies (mentions m) e u fits h binds = elim (of_variable seen bodie
 by_mark seen bodies (of_fields site m) e u fits h binds =
     let is = field_events_are seen bodies site m e h in
     of_object seen bodies (of_fields site m) e u is binds (object_is_cancel e is)
-by_mark seen bodies (defers_literal site at) e u fits h binds = absurd (single (defer_literal at) refl e h u binds)
+by_mark seen bodies (runs_literal moment site at) e u fits h binds = absurd (run_binds_nothing seen.known.edition moment at e h u binds)
 by_mark seen bodies (returns at es) e u fits h binds = absurd (single (return_event (handed_on seen bodies 0 es)) refl e h u binds)
 by_mark seen bodies (opens x) e u fits h binds = absurd (contains_nil e h)
 by_mark seen bodies closes e u fits h binds = absurd (contains_nil e h)

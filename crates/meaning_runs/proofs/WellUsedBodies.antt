@@ -1,26 +1,28 @@
 -- Where no use in a file is a fault, bodies start work only in groups of their own, lent or not, and in their homes;
 -- and all else that is asked of names and uses holds.
-use Rattle.std.proofs.Common.{◌≡◌, ℕ, ◌⊎◌, inl, inr, true, false, List, [], ◌∷◌, ◌++◌, Option, Some, None, refl, sym, ap, ◌∙◌, subst}
+use Rattle.std.proofs.Common.{◌≡◌, ℕ, ◌<◌, Contains, ◌⊎◌, inl, inr, true, false, List, [], ◌∷◌, ◌++◌, Option, Some, None, refl, sym, ap, ◌∙◌, subst}
 use Rattle.std.specs.Prelude.{◌==◌, ◌&&◌}
 use Rattle.std.specs.List.{list_any}
 use Rattle.std.proofs.lemmas.Bool.{true≢false, and_parts, and_from, eq-eqb, false_from_ne_true}
 use Rattle.std.proofs.lemmas.List.Elements.{Contains-append_right}
 use Rattle.meaning.specs.Code.{Occurrence}
 use Rattle.meaning.specs.Lists.{stopped}
-use Rattle.meaning.specs.Tracked.{Placed}
-use Rattle.meaning.specs.Uses.{VariableAt, Event, defer_literal, Seen, is_body}
+use Rattle.meaning.specs.Tracked.{Placed, outer}
+use Rattle.meaning_runs.proofs.MarksBeside.{IsBeside}
+use Rattle.meaning.specs.Mentions.{BodyPlace, at_return, in_goroutine}
+use Rattle.meaning.specs.Uses.{VariableAt, Event, defer_literal, go_literal, go, Seen, is_body}
 use Rattle.meaning.specs.BodyEvents.{Variable, VariableRole, own_parameter, own_receiver, declared_in_body, captured, is_parameter, mark_events}
 use Rattle.meaning.proofs.Membership.{contains_here}
 use Rattle.meaning_packages.specs.PathFaults.{is_declared}
 use Rattle.meaning_runs.specs.Bodies.{Program, Body, IsOf, IsLiteralIn, Escapes, variables_in, is_parameter_of, is_captured_by, is_captured, starts_it, is_started_in}
-use Rattle.meaning_runs.specs.BodyOffsets.{AreApart}
+use Rattle.meaning_runs.specs.BodyOffsets.{AreApart, AreFalling}
 use Rattle.meaning_runs.specs.Steps.{Starts, by_start, by_try}
 use Rattle.meaning_runs.proofs.Bindings.{Binds, kind_bound, makes}
 use Rattle.meaning_runs.proofs.Captured.{any_there, any_true}
 use Rattle.meaning_runs.proofs.EventSources.{events_have_sources}
 use Rattle.meaning_runs.proofs.GroupDuties.{is_mentioned, captured_is_mentioned, mentioned_is_bound_once}
 use Rattle.meaning_runs.proofs.GroupHomes.{home_in, IsWellUsed}
-use Rattle.meaning_runs.proofs.GroupVariables.{Lends, by_loan, HasGroup, IsItsOwn, starts_are_allowed, started_literal_is_at_home, lends_are_own, literal_at_home_is_started, home_is_not_its_own, outermost_is_not_at_home, function_is_not_at_home, deferred_is_not_at_home, bindings_are_own, saved_literal_is_deferred}
+use Rattle.meaning_runs.proofs.GroupVariables.{Lends, by_loan, HasGroup, IsItsOwn, starts_are_allowed, started_literal_is_at_home, lends_are_own, literal_at_home_is_started, home_is_not_its_own, outermost_is_not_at_home, function_is_not_at_home, run_is_not_at_home, bindings_are_own, run_literal_runs}
 use Rattle.meaning_runs.proofs.OwnNumbers.{is_own, declared_is_own, parameter_is_own, captured_role}
 use Rattle.meaning_runs.proofs.OwnBindings.{BindsVariable}
 use Rattle.meaning_runs.proofs.Places.{eqb_is}
@@ -119,6 +121,19 @@ module _ (p : Program) (well : (b : Body) → IsOf p b → IsWellUsed b.file) wh
       literal.place.at x.0 x.1
       (captured_role x.0.role q.1)))
 
+  behind : (b literal : Body) → IsOf p b → IsLiteralIn b literal → b.place.at < literal.place.at
+  behind b literal of is =
+      let w = well b of in
+      let opened = subst (λ m. IsBeside b.file.marks is.mark.bodies m) is.opens_it (w.form.beside is.mark is.is_of_file) in
+      by (outer is.mark.bodies) (subst AreFalling opened.stands_first (w.apart.falling is.mark is.is_of_file)).0
+      is.stands_in_it
+    where
+      by : (cs : List BodyPlace) → ((c : BodyPlace) → Contains cs c → c.at < literal.place.at)
+          → is_body b.place.at cs ≡ true
+          → b.place.at < literal.place.at
+      by [] all e = absurd (true≢false (sym e))
+      by (c ∷ cs) all e = subst (λ n. n < literal.place.at) (eqb_is c.at b.place.at e) (all c (contains_here c cs))
+
   pub bodies_are_well_used : BodiesAreWellUsed p
   bodies_are_well_used = record {
     binds_own = λ b t o u of reached binds. (
@@ -154,10 +169,16 @@ module _ (p : Program) (well : (b : Body) → IsOf p b → IsWellUsed b.file) wh
     outermost_has_no_home = λ b of outermost.
         without_home b (outermost_is_not_at_home b (well b of) of.is_body outermost);
     deferred_has_no_home = λ b t o at literal of reached e is begins.
-        deferred_is_not_at_home literal
-        (saved_literal_is_deferred b (well b of) (t ++ o ∷ []) stopped reached o
-        (Contains-append_right t (o ∷ []) o (contains_here o [])) literal is
+        run_is_not_at_home literal
+        (run_literal_runs b (well b of) (t ++ o ∷ []) stopped reached o
+        (Contains-append_right t (o ∷ []) o (contains_here o [])) literal at_return is
         (e ∙ ap defer_literal (sym begins)));
+    gone_has_no_home = λ b t o at literal of reached e is begins.
+        run_is_not_at_home literal
+        (run_literal_runs b (well b of) (t ++ o ∷ []) stopped reached o
+        (Contains-append_right t (o ∷ []) o (contains_here o [])) literal in_goroutine is
+        (e ∙ ap (λ n. go (go_literal n)) (sym begins)));
     escaped_has_no_home = λ b literal of escapes. without_home literal (escaped b literal of escapes);
+    begins_behind = behind;
     captured_is_mentioned = mentioned;
   }

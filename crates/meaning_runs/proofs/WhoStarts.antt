@@ -1,11 +1,11 @@
 -- By which variables a body can start work in a group, as names alone say it, and what the rules of uses give of them.
-use Rattle.std.specs.Prelude.{◌≡◌, ℕ, ◌==◌, ◌&&◌, Bool, true, false, List, Option, Some, None, Contains}
+use Rattle.std.specs.Prelude.{◌≡◌, ℕ, ◌<◌, ◌==◌, ◌&&◌, Bool, true, false, List, Option, Some, None, Contains}
 use Rattle.std.specs.List.{list_any}
 use Rattle.meaning.specs.Code.{Occurrence}
 use Rattle.meaning.specs.Lists.{Reaches}
 use Rattle.meaning.specs.FunctionFacts.{group}
 use Rattle.meaning.specs.Tracked.{GroupState}
-use Rattle.meaning.specs.Uses.{Callee, VariableAt, Event, lend, make, defer_literal}
+use Rattle.meaning.specs.Uses.{Callee, VariableAt, Event, lend, make, defer_literal, go_literal, go}
 use Rattle.meaning.specs.BodyEvents.{Variable, is_parameter}
 use Rattle.meaning_packages.specs.PathFaults.{is_declared}
 use Rattle.meaning_runs.specs.Bodies.{Program, Body, IsOf, IsOutermost, IsLiteralIn, IsFunction, Escapes, code_of, variables_in, is_parameter_of, is_captured_by}
@@ -87,7 +87,16 @@ pub record BodiesAreWellUsed (p : Program) : Type 0 where
       → IsLiteralIn b literal
       → literal.place.at ≡ at
       → home_in literal ≡ None
+  pub gone_has_no_home : (b : Body) (t : List (Occurrence Event)) (o : Occurrence Event) (at : ℕ) (literal : Body)
+      → IsOf p b
+      → Reaches (code_of b) t o
+      → o.event ≡ go (go_literal at)
+      → IsLiteralIn b literal
+      → literal.place.at ≡ at
+      → home_in literal ≡ None
   pub escaped_has_no_home : (b literal : Body) → IsOf p b → Escapes b literal → home_in literal ≡ None
+  -- a literal begins behind the body in which it stands
+  pub begins_behind : (b literal : Body) → IsOf p b → IsLiteralIn b literal → b.place.at < literal.place.at
   -- what a literal captures it, or a literal in it, mentions
   pub captured_is_mentioned : (b literal : Body) (v : ℕ)
       → IsOf p b

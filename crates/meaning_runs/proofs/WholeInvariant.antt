@@ -17,4 +17,4 @@ pub record IsFineWorld (p : Program) (w : World) (m : Memory) : Type 0 where
   pub roots : RootsGoOn p w m
 
 abbrev pub RunsAreFine : Program → Type 0
-RunsAreFine p = (w : World) (run : Run p w) → IsFineWorld p w (memory_of run)
+RunsAreFine p = (least : ℕ) (w : World) (run : Run p w) → IsFineWorld p w (memory_of least run)

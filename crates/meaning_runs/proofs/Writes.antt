@@ -17,7 +17,7 @@ use Rattle.meaning.specs.Mentions.{Named, bare, as_bare, as_new_literal, bare_wi
 use Rattle.meaning.specs.Tracked.{Known, variable_of, declared_by, LocalRole, parameter, receiver, variadic, result, in_block, Local, giving_of, kind_of_local, some_keep}
 use Rattle.meaning.specs.Uses.{Seen, found, kind_of, tracked_kind, may_be_tracked, cancel_type_of, cancel_use_by, UseFault, fault_at, cancel_used_otherwise, bound_again, Binding, obtained, cleared, made, binding_at, binding_event, binding_outcome, first_faults, type_faults, again_faults, is_own, is_of_local, is_in_literal, mentions_inside, row_outcome, role_outcome, local_outcome, variable_outcome, variable_at, mention_outcome, use_outcome, error_events, cancel_passed, cancel_use, either_use, Outcome, Event, giving_faults, errgroup_faults, VariableAt}
 use Rattle.meaning.specs.Kept.{object_events}
-use Rattle.meaning.specs.BodyEvents.{seen_file}
+use Rattle.meaning.specs.BodyEvents.{seen_file, sent_events}
 use Rattle.meaning.proofs.Membership.{contains_nil, contains_here, contains_there, contains_cases}
 use Rattle.meaning_packages.specs.PathFaults.{BindsCancel, obtains, clears}
 use Rattle.meaning_runs.specs.Writes.{one_name, names_on_left, name_of, spec_names, guard_names, written_by, handed_out, may_write, IsMarked, WritesAreMarked, IsSeenWrite, binds, is_fault, declares_another, WritesAreSeen}
@@ -323,7 +323,8 @@ module _ (seen : Seen) (bodies : List BodyPlace) (m : Mention) (l : Local)
 
     bound : (e : Event) → Contains o.events e → BindsCancel e (variable_at l m) → IsSeenWrite seen bodies m l
     bound e h b =
-        binds e (Contains-append_left (variable_outcome seen bodies m).events (error_events seen m m.role ++ object_events seen bodies m) e
+        binds e (Contains-append_left (variable_outcome seen bodies m).events (error_events seen m m.role
+        ++ (object_events seen bodies m ++ sent_events seen.known.edition seen bodies m)) e
         (subst (λ (p : Outcome). Contains p.events e) its_outcome h)) b
 
   -- a mention that binds nothing

@@ -7,10 +7,9 @@ use Rattle.meaning.specs.Code.{Code}
 use Rattle.meaning.specs.StatementCode.{body_code}
 use Rattle.meaning.specs.Mentions.{BodyPlace, opens}
 use Rattle.meaning.specs.Tracked.{Placed, outer}
-use Rattle.meaning.specs.Uses.{Callee, Event, start, try, Seen, is_body, is_deferred}
-use Rattle.meaning.specs.BodyEvents.{Variable, VariableRole, own_parameter, own_receiver, declared_in_body, captured, is_parameter, mark_events, sites_of, variables_of}
+use Rattle.meaning.specs.Uses.{Callee, Event, start, try, Seen, is_body, is_deferred, go_literal, go}
+use Rattle.meaning.specs.BodyEvents.{Variable, VariableRole, own_parameter, own_receiver, declared_in_body, captured, is_parameter, mark_events, sites_of, variables_of, bodies_of}
 use Rattle.meaning_packages.specs.PathFaults.{block_of}
-use Rattle.meaning.specs.BodyEvents.{bodies_of}
 use Rattle.meaning_packages.specs.CallsFlags.{is_function}
 use Rattle.imports.specs.Ranks.{Chain}
 use Rattle.meaning_reports.specs.Loaded.{LoadedPackage, Tables, import_list, seen_files}
@@ -83,8 +82,9 @@ pub record IsLiteralIn (b literal : Body) : Type 0 where
   pub same_file : literal.file ≡ b.file
   pub same_home : literal.home ≡ b.home
 
--- the event starts the literal at that offset in a group, or tries to
+-- the event starts the literal at that offset, in a group or under `go`, or tries to
 abbrev pub starts_it : ℕ → Event → Bool
+starts_it at (go (go_literal literal)) = literal == at
 starts_it at (start v (Some literal)) = literal == at
 starts_it at (try v (Some literal)) = literal == at
 starts_it at e = false
@@ -95,8 +95,8 @@ is_started_in b at =
     list_any (λ p. is_body b.place.at p.bodies && list_any (starts_it at) (mark_events b.file p.bodies p.mark))
     b.file.marks
 
--- The literal in the body goes to whoever gets its value: it is not called under `defer`, and no group starts it. (One
--- that is started by something else than a tracked group is among these.)
+-- The literal in the body goes to whoever gets its value: it is not called under `defer`, and neither a group nor, in
+-- the second edition, a `go` statement starts it. (One that is started by something else is among these.)
 pub record Escapes (b literal : Body) : Type 0 where
   pub is_literal : IsLiteralIn b literal
   pub is_not_deferred : is_deferred literal.place ≡ false

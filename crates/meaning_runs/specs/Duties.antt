@@ -1,4 +1,5 @@
--- What serves the proof of the promise: what the paths of a body rely on, and that functions and literals keep it.
+-- What serves the proof of the promise: what the paths of a body rely on, and that functions and literals keep it. The
+-- promise itself says `IsWaitingFor`, of a goroutine that waits for a group.
 use Rattle.std.specs.Prelude.{◌≡◌, ℕ, Bool, true, List, Some, slice_get, Contains}
 use Rattle.meaning.specs.FunctionFacts.{cancel, group}
 use Rattle.meaning.specs.Uses.{Callee}

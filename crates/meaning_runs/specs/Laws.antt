@@ -1,11 +1,11 @@
 -- What is proved of the machine, each by a public function of src/lib.rt.
 use Rattle.std.specs.Prelude.{◌≡◌, ℕ, ◌<◌, List, [], ◌∷◌, Option, Some, None, Contains}
 use Rattle.meaning.specs.Code.{Code}
-use Rattle.meaning.specs.Uses.{Event, other, obtain, obtain_kept, renew, keep, call_kept, defer_kept, give, give_field, clear, call, defer_call, pass, defer_pass, lend, start, try, wait, defer_wait, make, defer_literal, return_event}
+use Rattle.meaning.specs.Uses.{Event, other, obtain, obtain_kept, renew, keep, call_kept, defer_kept, give, give_field, clear, call, defer_call, pass, defer_pass, lend, start, try, wait, defer_wait, make, defer_literal, return_event, Work, go_call, go_pass, go_literal, go}
 use Rattle.meaning_runs.specs.Bodies.{Program, Body, IsOf, IsOutermost, IsLiteralIn, Escapes}
 use Rattle.meaning_runs.specs.World.{Value, outside, ComesFrom, IsDone, with_new, MayEndWait, AreForeign, Closure, Saved, saved_call, saved_literal, saved_wait, Store, Stage, runs, exits, Frame, held_group, World, new_frame, nothing_around, nothing, held, with_stack}
 use Rattle.meaning_runs.specs.Steps.{GoesOn, DoesNext, RunsSaved, IsAtEnd, at_code, IsFree, Starts, Step}
-use Rattle.meaning_runs.specs.Runs.{Run}
+use Rattle.meaning_runs.specs.Runs.{Run, step_more, IsSeenTo, IsCalledFor}
 
 -- Steps of one goroutine
 
@@ -45,6 +45,12 @@ IsThere b (Some at) = (literal : Body) × IsLiteralIn b literal × (literal.plac
 abbrev pub HasFreeGoroutine : World → Type 0
 HasFreeGoroutine w = (g : ℕ) × IsFree w g
 
+-- what a `go` statement asks for: a goroutine, and that its literal is there; of a function CallSteps tells
+abbrev pub IsGoReady : World → Frame → Work → Type 0
+IsGoReady w f (go_call v) = Unit {0}
+IsGoReady w f (go_pass callee xs) = ⊥
+IsGoReady w f (go_literal at) = IsThere f.body (Some at) × HasFreeGoroutine w
+
 -- What an event asks for so that it has a step: that its literal is there, that a start has a group and a goroutine to
 -- start work in, and that a Wait may end.
 abbrev pub IsReady : World → Frame → Event → Type 0
@@ -69,6 +75,7 @@ IsReady w f (wait v) = MayEndWait w.store (held_group w.store f v)
 IsReady w f (defer_wait v) = Unit {0}
 IsReady w f (make u state) = Unit {0}
 IsReady w f (defer_literal at) = IsThere f.body (Some at)
+IsReady w f (go work) = IsGoReady w f work
 IsReady w f (return_event handed) = Unit {0}
 
 -- A goroutine's running frame goes on in its code, and at its return runs what it saved, and then is gone. Of one whose
@@ -106,6 +113,12 @@ CallsOfNothingDoNothing = (p : Program) (w : World) (g : ℕ) (f : Frame) (other
     → DoesNext f (call v) rest
     → held w.store f v ≡ nothing
     → Step p w (with_stack w w.store g (at_code f rest ∷ others))
+
+-- What is seen to is seen to after each step too.
+abbrev pub CalledForStays : Type 0
+CalledForStays = (p : Program) (w next : World) (a : ℕ) (run : Run p w) (step : Step p w next)
+    → IsSeenTo p (IsCalledFor a) w run
+    → IsSeenTo p (IsCalledFor a) next (step_more run step)
 
 -- Members, in every world of a run
 

@@ -3,6 +3,8 @@ pub mod Bodies
 pub mod World
 pub mod Moves
 pub mod Steps
+-- of which the promise says `IsWaitingFor`
+pub mod Duties
 pub mod Runs
 pub mod Promise
 pub mod PackageYes
@@ -32,4 +34,3 @@ pub mod ToldFields
 -- What serves the proofs.
 pub mod EventSources
 pub mod BodyOffsets
-pub mod Duties

@@ -5,7 +5,7 @@
 use Rattle.std.specs.Prelude.{ℕ, ◌≤◌, List, Option, Some, None, Contains, length}
 use Rattle.tree.specs.declared.edition.Edition.{Edition}
 use Rattle.tree.specs.Syntax.{Parameters, no_parameter, named_and, unnamed_and, name_alone_and, Signature, signature_of, SourceFile}
-use Rattle.meaning.specs.Mentions.{CallPlace, nowhere, as_statement, only_value, return_item, deferred, under_go, Role, elsewhere, as_key, pointed_to, called, called_in_brackets, argument, returned, left, names_type, new_literal, parameter_pointer, FieldMark, writes_field, Mark, mentions, of_fields, defers_literal, returns, opens, closes, file_marks, exposed, found_nil, found_error}
+use Rattle.meaning.specs.Mentions.{CallPlace, nowhere, as_statement, only_value, return_item, deferred, under_go, Role, elsewhere, as_key, pointed_to, called, called_in_brackets, argument, returned, left, names_type, new_literal, parameter_pointer, FieldMark, writes_field, Mark, mentions, of_fields, returns, opens, closes, file_marks, exposed, found_nil, found_error, runs_literal}
 use Rattle.meaning_reports.specs.MeantImports.{IsTreeButForImports}
 
 -- the statement of the row whose only value stands there
@@ -55,7 +55,7 @@ FieldStandsWithin n mark = Unit {0}
 abbrev pub StandsWithin : ℕ → Mark → Type 0
 StandsWithin n (mentions m) = (m.named.at ≤ n) × RoleStandsWithin n m.role
 StandsWithin n (of_fields site m) = FieldStandsWithin n m
-StandsWithin n (defers_literal site at) = Unit {0}
+StandsWithin n (runs_literal moment site at) = Unit {0}
 StandsWithin n (returns at es) = Unit {0}
 StandsWithin n (opens b) = ReceiverStandsWithin n b.receiver × SignatureStandsWithin n b.signature
 StandsWithin n closes = Unit {0}

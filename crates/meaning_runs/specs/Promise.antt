@@ -5,7 +5,9 @@
 -- most consistent flags, or full credits.
 use Rattle.std.specs.Prelude.{◌≡◌, ℕ, false, List, [], ◌∷◌, Some, slice_get, Contains}
 use Rattle.tree.specs.Syntax.{SourceFile}
-use Rattle.meaning.specs.Uses.{Seen}
+use Rattle.meaning.specs.Uses.{Seen, Work, Event, go}
+use Rattle.meaning.specs.Code.{Occurrence}
+use Rattle.meaning.specs.Lists.{Reaches}
 use Rattle.meaning_packages.specs.Credits.{AreFairCredits}
 use Rattle.meaning_packages.specs.CallsFlags.{FileWithCredits, calls_by, AreConsistent}
 use Rattle.report.specs.Entries.{Entry}
@@ -14,8 +16,9 @@ use Rattle.meaning_reports.specs.Loaded.{LoadedPackage, HaveDistinctPaths, Table
 use Rattle.meaning_reports.specs.WholeFaults.{HasNoWholeFault}
 use Rattle.meaning_reports.specs.UsedImports.{Uses}
 use Rattle.meaning_reports.specs.PackageReports.{IsFileFinding}
-use Rattle.meaning_runs.specs.Bodies.{Program, IsRun}
-use Rattle.meaning_runs.specs.Runs.{IsQuietProgram}
+use Rattle.meaning_runs.specs.Bodies.{Program, IsRun, Body, IsOf, code_of}
+use Rattle.meaning_runs.specs.World.{Frame, World}
+use Rattle.meaning_runs.specs.Runs.{IsQuietProgram, Run, IsOfFirst, IsReturning, IsQuiet}
 
 -- To whose functions those that run pass a cancel variable or lend a group, these run too, if they count as given.
 abbrev pub AreClosed : Program → Type 0
@@ -79,6 +82,29 @@ pub record HaveNoFindings (p : Program) (IsOne : ℕ → Type 0) : Type 0 where
       → IsOne i
       → slice_get p.packages i ≡ Some q
       → IsWithoutFinding p.packages p.tables i q
+
+-- no body that runs comes to a `go` statement that may take something over
+abbrev pub HasNoGo : Program → Type 0
+HasNoGo p = (b : Body) (t : List (Occurrence Event)) (o : Occurrence Event) (work : Work)
+    → IsOf p b
+    → Reaches (code_of b) t o
+    → o.event ≡ go work
+    → ⊥
+
+-- The first edition has no such event.
+abbrev pub FirstHasNoGo : Type 0
+FirstHasNoGo = (p : Program) → IsOfFirst p → HasNoGo p
+
+-- where there is none, each return is quiet
+abbrev pub YesIsQuietWithoutGo : Type 0
+YesIsQuietWithoutGo = (p : Program)
+    → HasNoGo p
+    → AreWellKnown p
+    → HaveNoFindings p (IsRun p)
+    → (w : World) (f : Frame)
+    → Run p w
+    → IsReturning w f
+    → IsQuiet w f
 
 -- Where only such packages run, and all others belong to the environment, each return is quiet.
 abbrev pub YesIsQuiet : Type 0

@@ -5,15 +5,15 @@
 use Rattle.std.specs.Prelude.{◌≡◌, ℕ, Bool, true, false, if◌then◌else◌, ◌++◌, List, [], ◌∷◌, Some, None, Contains}
 use Rattle.tree.specs.Syntax.{SourceFile}
 use Rattle.meaning.specs.Tracked.{Known}
-use Rattle.meaning.specs.BodyEvents.{seen_file}
+use Rattle.meaning.specs.BodyEvents.{seen_file, bodies_of}
 use Rattle.meaning.specs.Code.{Occurrence, Code}
 use Rattle.meaning.specs.Lists.{Exit, Lists}
-use Rattle.meaning.specs.Uses.{Event, other, obtain, obtain_kept, renew, keep, call_kept, defer_kept, give, give_field, clear, call, defer_call, pass, defer_pass, lend, start, try, wait, defer_wait, make, defer_literal, return_event}
+use Rattle.meaning.specs.Uses.{Event, other, obtain, obtain_kept, renew, keep, call_kept, defer_kept, give, give_field, clear, call, defer_call, pass, defer_pass, lend, start, try, wait, defer_wait, make, defer_literal, return_event, Work, go_call, go_pass, go_literal, go}
 use Rattle.meaning.specs.BodyEvents.{bodies_of}
 use Rattle.meaning_reports.specs.MeantImports.{IsTreeButForImports}
 use Rattle.meaning_runs.specs.Bodies.{Program, Body, IsOf, IsOutermost, is_parameter_of, code_of}
 use Rattle.meaning_runs.specs.World.{Place, put_at, Store, runs, exits, Frame, World}
-use Rattle.meaning_runs.specs.Steps.{ComesTo, HasNoBody, Acts, moves_on, does_other, obtains_one, obtains_into, keeps_one, renews_object, calls_kept, saves_kept, gives_object, gives_in_field, clears_one, calls_one, saves_call, makes_group, tries_nothing, ends_wait, saves_wait, evaluates, evaluates_deferred, lends, makes_call, calls_outside, saves_pass, saves_literal, comes_to_return, runs_call, runs_pass, runs_literal, runs_wait, returns_now, Starts, ChangesMembers, starts_member, starts_stranger, starts_outside, starts_beside, leaves_group, Step, of_goroutine, of_members, of_environment}
+use Rattle.meaning_runs.specs.Steps.{ComesTo, HasNoBody, Acts, moves_on, does_other, obtains_one, obtains_into, keeps_one, renews_object, calls_kept, saves_kept, gives_object, gives_in_field, clears_one, calls_one, saves_call, makes_group, tries_nothing, ends_wait, saves_wait, evaluates, evaluates_deferred, lends, makes_call, calls_outside, saves_pass, saves_literal, comes_to_return, runs_call, runs_pass, runs_literal, runs_wait, returns_now, Starts, ChangesMembers, starts_member, starts_stranger, starts_outside, starts_beside, leaves_group, Step, of_goroutine, of_members, of_environment, StartsGoroutine, starts_call, starts_function, starts_foreign, starts_its_literal, of_go}
 use Rattle.meaning_runs.specs.Laws.{IsThere}
 use Rattle.meaning_runs.specs.Runs.{Run, no_step, step_more}
 use Rattle.meaning_runs.specs.Doings.{Does, IsLeft}
@@ -66,9 +66,17 @@ events_of_change (starts_outside g h at c lent is free) = []
 events_of_change (starts_beside g h member none free) = []
 events_of_change (leaves_group g member done) = []
 
+abbrev pub events_of_go : {p : Program} {w next : World} → StartsGoroutine p w next → List (Occurrence Event)
+events_of_go (starts_call g sets) = event_of sets.does_next.comes_to ∷ []
+events_of_go (starts_function g h b values groups sets free is fits) = event_of sets.does_next.comes_to ∷ []
+events_of_go (starts_foreign g sets no_body) = event_of sets.does_next.comes_to ∷ []
+events_of_go (starts_its_literal g h b values groups sets free is_in is_at foreign) =
+    event_of sets.does_next.comes_to ∷ []
+
 abbrev pub events_of_step : {p : Program} {w next : World} → Step p w next → List (Occurrence Event)
 events_of_step (of_goroutine g at a) = events_of_act a
 events_of_step (of_members c) = events_of_change c
+events_of_step (of_go s) = events_of_go s
 events_of_step (of_environment s) = []
 
 -- of all goroutines, the first one first
@@ -77,6 +85,11 @@ events_of no_step = []
 events_of (step_more r s) = events_of r ++ events_of_step s
 
 -- Lists that can be run
+
+abbrev pub IsGoRunnable : Program → Body → Work → Type 0
+IsGoRunnable p b (go_call v) = Unit {0}
+IsGoRunnable p b (go_pass callee xs) = HasNoBody p b callee
+IsGoRunnable p b (go_literal at) = IsThere b (Some at)
 
 -- What an event asks for so that the frame comes past it: that its literal is there, and that no body is known for the
 -- function that gets the argument, since such a body need not come to an end.
@@ -102,6 +115,7 @@ IsRunnable p b (wait v) = Unit {0}
 IsRunnable p b (defer_wait v) = Unit {0}
 IsRunnable p b (make u state) = Unit {0}
 IsRunnable p b (defer_literal at) = IsThere b (Some at)
+IsRunnable p b (go work) = IsGoRunnable p b work
 IsRunnable p b (return_event handed) = Unit {0}
 
 -- which variables hold groups after an event, where these did before
@@ -216,6 +230,15 @@ DeferredLiteralsAreThere = (b : Body) (t : List (Occurrence Event)) (x : Exit) (
     → o.event ≡ defer_literal at
     → IsThere b (Some at)
 
+-- So does each that is called under `go`.
+abbrev pub GoneLiteralsAreThere : Type 0
+GoneLiteralsAreThere = (b : Body) (t : List (Occurrence Event)) (x : Exit) (o : Occurrence Event) (at : ℕ)
+    → IsOfText b
+    → Lists (code_of b) t x
+    → Contains t o
+    → o.event ≡ go (go_literal at)
+    → IsThere b (Some at)
+
 -- So does each that is started in a group, or that a try may start.
 abbrev pub StartedLiteralsAreThere : Type 0
 StartedLiteralsAreThere = (b : Body) (t : List (Occurrence Event)) (x : Exit) (o : Occurrence Event) (v at : ℕ)
@@ -229,6 +252,7 @@ StartedLiteralsAreThere = (b : Body) (t : List (Occurrence Event)) (x : Exit) (o
 abbrev pub IsRunnableOfText : Program → Body → Event → Type 0
 IsRunnableOfText p b (defer_literal at) = Unit {0}
 IsRunnableOfText p b (start v literal) = Unit {0}
+IsRunnableOfText p b (go (go_literal at)) = Unit {0}
 IsRunnableOfText p b e = IsRunnable p b e
 
 -- So there each list is that of a run, as far as no body is known for a function that gets a cancel function or a

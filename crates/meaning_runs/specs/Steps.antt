@@ -1,19 +1,19 @@
--- One step of a program: of the running frame of a goroutine, of a group that gets or loses a member, or of the
--- environment. Any goroutine may be the next, and the environment may act between any two steps. Behind a call of
--- `panic` nothing comes.
+-- One step of a program: of the running frame of a goroutine, of a `go` statement that starts another, of a group that
+-- gets or loses a member, or of the environment. Any goroutine may be the next, and the environment may act between any
+-- two steps. Behind a call of `panic` nothing comes.
 -- (The Go specification, "Calls", "Return statements", "Defer statements", "Go statements"; the documentation of
 -- `context` and `golang.org/x/sync/errgroup`.)
-use Rattle.std.specs.Prelude.{◌≡◌, ℕ, ◌<◌, ◌⊎◌, ◌&&◌, ◌++◌, Bool, true, false, List, [], ◌∷◌, Option, Some, None, map, length, Contains}
+use Rattle.std.specs.Prelude.{◌≡◌, ℕ, ◌<◌, ◌⊎◌, ◌&&◌, ◌++◌, Bool, true, false, List, [], ◌∷◌, Option, Some, None, map, length, Contains, if◌then◌else◌}
 use Rattle.std.specs.List.{list_any}
 use Rattle.std.specs.Str.{bytes_eq}
 use Rattle.meaning.specs.Code.{Occurrence, Code}
 use Rattle.meaning.specs.FunctionFacts.{context_path}
 use Rattle.meaning.specs.Tracked.{plain_makers, cause_makers, GroupState, idle, live}
-use Rattle.meaning.specs.Uses.{Callee, VariableAt, Handed, Event, other, obtain, obtain_kept, renew, keep, call_kept, defer_kept, give, give_field, clear, call, defer_call, pass, defer_pass, lend, start, try, wait, defer_wait, make, defer_literal, return_event}
+use Rattle.meaning.specs.Uses.{Callee, VariableAt, Handed, Event, other, obtain, obtain_kept, renew, keep, call_kept, defer_kept, give, give_field, clear, call, defer_call, pass, defer_pass, lend, start, try, wait, defer_wait, make, defer_literal, return_event, Sent, Work, go_call, go_pass, go_literal, go}
 use Rattle.meaning.specs.BodyEvents.{Variable, own_parameter}
 use Rattle.meaning_packages.specs.CallsFlags.{calls_by}
 use Rattle.meaning_runs.specs.Bodies.{Program, Body, IsOf, variables_in, IsOutermost, IsLiteralIn, Escapes, IsFunction}
-use Rattle.meaning_runs.specs.World.{Value, nothing, cancel_function, Place, outside, frame_at, Store, IsEarlier, with_new, calling, IsAny, with_group, IsOutside, with_member, MayEndWait, waiting_for, Given, Lent, Passing, Closure, Saved, saved_call, saved_pass, saved_literal, saved_wait, runs, exits, Frame, World, with_stack, held, held_group, kept_value, without_kept, with_kept, giving_away, handed_by, with_cells, AreForeign, own_cell, binding, binding_group, binds, new_frame, nothing_around}
+use Rattle.meaning_runs.specs.World.{Value, nothing, cancel_function, Place, outside, frame_at, Store, IsEarlier, with_new, calling, IsAny, with_group, IsOutside, with_member, MayEndWait, waiting_for, Given, Lent, Passing, Closure, Saved, saved_call, saved_pass, saved_literal, saved_wait, runs, exits, Frame, World, with_stack, held, held_group, kept_value, without_kept, with_kept, giving_away, handed_by, with_cells, AreForeign, own_cell, binding, binding_group, binds, new_frame, nothing_around, to_call_too}
 use Rattle.meaning_runs.specs.Moves.{Moves}
 
 -- What a frame comes to
@@ -381,7 +381,74 @@ pub data ChangesMembers (p : Program) (w : World) : World → Type 0 where
       → w.stacks g ≡ []
       → ChangesMembers p w (record w { store = with_member w.store g None })
 
--- What is outside: callers and callbacks, `go` statements, timers, and all that the packages don't show.
+-- Goroutines
+
+-- a call of a function under `go`, with what it gets
+abbrev pub sending : Store → Frame → Callee → List Sent → Passing
+sending s f callee xs = record {
+  callee = callee;
+  is_deferred = false;
+  given = map (λ x. record { position = x.position; value = held s f x.number }) xs;
+  lent = [];
+}
+
+-- what such a function has called when it returns, as is declared of it
+abbrev pub declared_too : Program → Callee → List Given → List ℕ → List ℕ
+declared_too p callee [] calls = calls
+declared_too p callee (x ∷ xs) calls =
+    let more = declared_too p callee xs calls in
+    if is_declared_to_call p callee x.position then to_call_too x.value more else more
+
+-- a goroutine's running frame comes to a `go` statement
+pub record SetsOff
+    (w : World) (g : ℕ) (f : Frame) (others : List Frame) (work : Work) (rest : Code Event)
+    : Type 0 where
+  pub is_running : w.stacks g ≡ f ∷ others
+  pub does_next : DoesNext f (go work) rest
+
+-- and passes it
+abbrev pub past_go : World → ℕ → Frame → List Frame → Code Event → World
+past_go w g f others rest = with_stack w w.store g (at_code f rest ∷ others)
+
+-- A `go` statement starts a goroutine, which is a member of no group.
+pub data StartsGoroutine (p : Program) (w : World) : World → Type 0 where
+  -- It calls what the variable holds, and nothing else. That it does is the environment's `calls_any`.
+  starts_call : {f : Frame} {others : List Frame} {rest : Code Event} {v : ℕ} (g : ℕ)
+      → SetsOff w g f others (go_call v) rest
+      → StartsGoroutine p w
+      (record (past_go w g f others rest) { to_call = to_call_too (held w.store f v) w.to_call })
+  starts_function : {f : Frame} {others : List Frame} {rest : Code Event} {callee : Callee} {xs : List Sent}
+      (g h : ℕ) (b : Body) (values : ℕ → Value) (groups : ℕ → Option ℕ)
+      → SetsOff w g f others (go_pass callee xs) rest
+      → IsFree w h
+      → IsFunction p f.body callee b
+      → Fits w.store b (sending w.store f callee xs) values groups
+      → StartsGoroutine p w (with_stack
+      (past_go w g f others rest)
+      (with_cells w.store values groups)
+      h (new_frame w.store b nothing_around ∷ []))
+  -- A function without a body runs outside. It calls what is declared of it.
+  starts_foreign : {f : Frame} {others : List Frame} {rest : Code Event} {callee : Callee} {xs : List Sent} (g : ℕ)
+      → SetsOff w g f others (go_pass callee xs) rest
+      → HasNoBody p f.body callee
+      → StartsGoroutine p w
+      (record (past_go w g f others rest) {
+        to_call = declared_too p callee (sending w.store f callee xs).given w.to_call;
+      })
+  -- a literal, which shares the cells of the frame around it
+  starts_its_literal : {f : Frame} {others : List Frame} {rest : Code Event} {at : ℕ} (g h : ℕ) (b : Body)
+      (values : ℕ → Value) (groups : ℕ → Option ℕ)
+      → SetsOff w g f others (go_literal at) rest
+      → IsFree w h
+      → IsLiteralIn f.body b
+      → b.place.at ≡ at
+      → AreForeign w.store values groups
+      → StartsGoroutine p w (with_stack
+      (past_go w g f others rest)
+      (with_cells w.store values groups)
+      h (new_frame w.store b f.newest ∷ []))
+
+-- What is outside: callers and callbacks, other `go` statements, timers, and all that the packages don't show.
 pub data Surrounds (p : Program) (w : World) : World → Type 0 where
   -- A function or method is called, or a literal outside all functions, by a goroutine that has no frame here. That may
   -- be a member of which nothing is known.
@@ -433,4 +500,5 @@ pub data Step (p : Program) (w : World) : World → Type 0 where
       → Acts p w.store (g, length others) f after frames
       → Step p w (with_stack w after g (frames ++ others))
   of_members : {next : World} → ChangesMembers p w next → Step p w next
+  of_go : {next : World} → StartsGoroutine p w next → Step p w next
   of_environment : {next : World} → Surrounds p w next → Step p w next

@@ -192,6 +192,8 @@ pub record World : Type 0 where
   pub stacks : ℕ → List Frame
   -- the literals that were evaluated, and that anyone may call
   pub escaped : List Closure
+  -- the cancel functions for whose call alone a goroutine was started, by `go c()`
+  pub to_call : List ℕ
 
 abbrev pub empty_world : World
 empty_world = record {
@@ -210,7 +212,13 @@ empty_world = record {
   };
   stacks = λ g. [];
   escaped = [];
+  to_call = [];
 }
+
+-- a goroutine was started that calls the value
+abbrev pub to_call_too : Value → List ℕ → List ℕ
+to_call_too nothing calls = calls
+to_call_too (cancel_function a) calls = a ∷ calls
 
 -- the goroutine has this stack now
 abbrev pub with_stack : World → Store → ℕ → List Frame → World

@@ -2,19 +2,19 @@
 #![tactic(auto)]
 
 ghost use Rattle.meaning_runs.specs.BodyOffsets.{BodiesAreApart, BodiesBeginOnce};
-ghost use Rattle.meaning_runs.specs.CallSteps.{CallsHaveSteps, HandsStayTrusted};
+ghost use Rattle.meaning_runs.specs.CallSteps.{CallsHaveSteps, GoneFunctionsHaveSteps, HandsStayTrusted, SentAreApart};
 ghost use Rattle.meaning_runs.specs.Doings.{MovesAreLists};
-ghost use Rattle.meaning_runs.specs.Laws.{CallsOfNothingDoNothing, ContextsAreSound, FramesHaveSteps, GoroutinesAreFree, GroupsGetMembers, MembersMayLeave, TheEnvironmentMay};
+ghost use Rattle.meaning_runs.specs.Laws.{CalledForStays, CallsOfNothingDoNothing, ContextsAreSound, FramesHaveSteps, GoroutinesAreFree, GroupsGetMembers, MembersMayLeave, TheEnvironmentMay};
 ghost use Rattle.meaning_runs.specs.EntryPlaces.{EntriesLieInFiles};
 ghost use Rattle.meaning_runs.specs.EventSources.{BindingsAreOfLocals, BindingsAreTracked, EventsHaveSources};
 ghost use Rattle.meaning_runs.specs.FilePlaces.{WholePlacesLieInFiles};
 ghost use Rattle.meaning_runs.specs.NamePlaces.{NamesLieInTexts};
 ghost use Rattle.meaning_runs.specs.OccurrencePlaces.{OccurrencesHavePlaces, OccurrencesLieInTexts};
-ghost use Rattle.meaning_runs.specs.Promise.{YesIsQuiet, YesIsQuietInAll};
+ghost use Rattle.meaning_runs.specs.Promise.{FirstHasNoGo, YesIsQuiet, YesIsQuietInAll, YesIsQuietWithoutGo};
 ghost use Rattle.meaning_runs.specs.PackageYes.{YesOfAPackageIsQuiet};
 ghost use Rattle.meaning_runs.specs.YesBelow.{YesIsOfAllBelow};
 ghost use Rattle.meaning_runs.specs.YesBesideOthers.{YesIsQuietBesideOthers};
-ghost use Rattle.meaning_runs.specs.RunLists.{BodiesAreOfTexts, DeferredLiteralsAreThere, ListsAreRun, ListsOfTextsAreRun, ReturnsAreLast, StartedLiteralsAreThere};
+ghost use Rattle.meaning_runs.specs.RunLists.{BodiesAreOfTexts, DeferredLiteralsAreThere, GoneLiteralsAreThere, ListsAreRun, ListsOfTextsAreRun, ReturnsAreLast, StartedLiteralsAreThere};
 ghost use Rattle.meaning_runs.specs.LoudReturns.{LostFunctionsAreSeen};
 ghost use Rattle.meaning_runs.specs.EditionReturns.{EditionReturnsExist};
 ghost use Rattle.meaning_runs.specs.FieldReturns.{FieldReturnsExist};
@@ -167,6 +167,21 @@ pub fn yes_is_quiet()
     ensures { YesIsQuiet }
 {}
 
+/// In the first edition no body that runs comes to a `go` statement that takes something on.
+pub fn first_has_no_go()
+    ensures { FirstHasNoGo }
+{}
+
+/// Where no body that runs does, each return of packages of which nothing is to be said is quiet.
+pub fn yes_is_quiet_without_go()
+    ensures { YesIsQuietWithoutGo }
+{}
+
+/// A cancel function that is seen to, by a call or by a goroutine that was started, is seen to after each step too.
+pub fn called_for_stays()
+    ensures { CalledForStays }
+{}
+
 /// So it is where all given packages run: what the bodies of others do is nothing that the environment may not do.
 pub fn yes_is_quiet_in_all()
     ensures { YesIsQuietInAll }
@@ -238,9 +253,24 @@ pub fn entries_lie_in_files()
     ensures { EntriesLieInFiles }
 {}
 
+/// What a `go` statement sends has each position once.
+pub fn sent_are_apart()
+    ensures { SentAreApart }
+{}
+
+/// So a `go` statement with a function has a step, by which a free goroutine runs the function.
+pub fn gone_functions_have_steps()
+    ensures { GoneFunctionsHaveSteps }
+{}
+
 /// In the tree of a text each literal whose call an event of a body saves stands in the body.
 pub fn deferred_literals_are_there()
     ensures { DeferredLiteralsAreThere }
+{}
+
+/// In the tree of a text each literal that an event of a body starts by a `go` statement stands in the body.
+pub fn gone_literals_are_there()
+    ensures { GoneLiteralsAreThere }
 {}
 
 /// In the tree of a text each literal that an event of a body starts in a group, or may start, stands in the body.

@@ -11,7 +11,7 @@ use Rattle.mentions.specs.declared.mark.CallPlace.{CallPlace as KeptPlace}
 use Rattle.mentions.specs.declared.mark.CallPlace.TheVariants.{Nowhere, Statement, OnlyValue, ReturnItem, Deferred, UnderGo}
 use Rattle.mentions.specs.declared.mark.Call.{Call as KeptCall}
 use Rattle.mentions.specs.declared.mark.LiteralUse.{LiteralUse as KeptUse}
-use Rattle.mentions.specs.declared.mark.LiteralUse.TheVariants.{Other, DeferredCall, StartedBy}
+use Rattle.mentions.specs.declared.mark.LiteralUse.TheVariants.{Other, DeferredCall, CallUnderGo, StartedBy}
 use Rattle.mentions.specs.declared.mark.Role.{Role as KeptRole}
 use Rattle.mentions.specs.declared.mark.Role.TheVariants.{Elsewhere, Key, Exposed, PointedTo, FoundNil, FoundError, Called, CalledInBrackets, Argument, Returned, Left, NamesType, NewLiteral, ParameterPointer}
 use Rattle.mentions.specs.declared.mark.Mention.{Mention as KeptMention}
@@ -22,8 +22,10 @@ use Rattle.mentions.specs.declared.mark.Taker.{Taker as KeptTaker}
 use Rattle.mentions.specs.declared.mark.Taker.TheVariants.{Nobody, CalledFunction, Appending, Method, Someone}
 use Rattle.mentions.specs.declared.mark.FieldMark.{FieldMark as KeptFieldMark}
 use Rattle.mentions.specs.declared.mark.FieldMark.TheVariants.{CallsField, WritesField, HandsOver, HandsLiteral, Renews, ImportsAll}
+use Rattle.mentions.specs.declared.mark.Moment.{Moment as KeptMoment}
+use Rattle.mentions.specs.declared.mark.Moment.TheVariants.{AtReturn, InGoroutine}
 use Rattle.mentions.specs.declared.mark.Mark.{Mark as KeptMark}
-use Rattle.mentions.specs.declared.mark.Mark.TheVariants.{Mentions, OfFields, DefersLiteral, Returns, Opens, Closes}
+use Rattle.mentions.specs.declared.mark.Mark.TheVariants.{Mentions, OfFields, RunsLiteral, Returns, Opens, Closes}
 use Rattle.mentions.specs.declared.mark.Spot.{Spot as KeptSpot}
 use Rattle.mentions.specs.declared.found.NilTest.{NilTest as KeptTest}
 use Rattle.tree.specs.declared.operator.UnaryOperator.{UnaryOperator}
@@ -31,7 +33,7 @@ use Rattle.tree.specs.declared.operator.UnaryOperator.TheVariants.{Address}
 use Rattle.tree.specs.declared.span.Span.{Span}
 use Rattle.tree.specs.Syntax.{Identifier}
 use Rattle.tree.specs.View.{identifier_syntax, parameters_syntax, signature_syntax, expression_syntax, expressions_syntax, optional_expression_syntax, statements_syntax}
-use Rattle.meaning.specs.Mentions.{Named, RowForm, defines, assigns, declares, Standing, ordinary, first_of_for, communication, Row, CallPlace, nowhere, as_statement, only_value, return_item, deferred, under_go, Call, LiteralUse, other_use, deferred_call, started_by, Role, elsewhere, as_key, exposed, pointed_to, found_nil, found_error, called, called_in_brackets, argument, returned, left, names_type, new_literal, parameter_pointer, Mention, BodyPlace, FieldLeft, Assigned, Taker, no_taker, called_function, appending, method, some_taker, called_name, FieldMark, calls_field, writes_field, hands_over, hands_literal, renews, imports_all, Mark, mentions, of_fields, defers_literal, returns, opens, closes, Spot, NilTest}
+use Rattle.meaning.specs.Mentions.{Named, RowForm, defines, assigns, declares, Standing, ordinary, first_of_for, communication, Row, CallPlace, nowhere, as_statement, only_value, return_item, deferred, under_go, Call, LiteralUse, other_use, deferred_call, call_under_go, started_by, Role, elsewhere, as_key, exposed, pointed_to, found_nil, found_error, called, called_in_brackets, argument, returned, left, names_type, new_literal, parameter_pointer, Mention, BodyPlace, FieldLeft, Assigned, Taker, no_taker, called_function, appending, method, some_taker, called_name, FieldMark, calls_field, writes_field, hands_over, hands_literal, renews, imports_all, Moment, at_return, in_goroutine, Mark, mentions, of_fields, runs_literal, returns, opens, closes, Spot, NilTest}
 
 abbrev pub identifier_at : List ℕ → Span → Identifier
 identifier_at text span = record { text = text; span = span }
@@ -80,6 +82,7 @@ optional_call c = option_map (λ (k : Bor KeptCall). call_view k.now) c
 abbrev pub use_view : KeptUse → LiteralUse
 use_view Other = other_use
 use_view DeferredCall = deferred_call
+use_view CallUnderGo = call_under_go
 use_view (StartedBy n) = started_by (named_view n)
 
 abbrev pub role_view : KeptRole → Role
@@ -142,10 +145,14 @@ field_mark_view (HandsLiteral taker at) = hands_literal (taker_view taker) at
 field_mark_view (Renews number) = renews number
 field_mark_view ImportsAll = imports_all
 
+abbrev pub moment_view : KeptMoment → Moment
+moment_view AtReturn = at_return
+moment_view InGoroutine = in_goroutine
+
 abbrev pub mark_view : KeptMark → Mark
 mark_view (Mentions m) = mentions (mention_view m)
 mark_view (OfFields site m) = of_fields site (field_mark_view m.now)
-mark_view (DefersLiteral site at) = defers_literal site at
+mark_view (RunsLiteral moment site at) = runs_literal (moment_view moment) site at
 mark_view (Returns at es) = returns at (expressions_syntax es.now)
 mark_view (Opens b) = opens (body_view b.now)
 mark_view Closes = closes

@@ -15,8 +15,8 @@ pub use fields::field_left;
 pub use found::{found_nil, guard_marks};
 pub use kept::Marks;
 pub use mark::{
-    Assigned, BodyPlace, Call, CallPlace, FieldLeft, FieldMark, LiteralUse, Mark, Mention, Named,
-    Role, Row, RowForm, Spot, Standing, Taker,
+    Assigned, BodyPlace, Call, CallPlace, FieldLeft, FieldMark, LiteralUse, Mark, Mention, Moment,
+    Named, Role, Row, RowForm, Spot, Standing, Taker,
 };
 pub use named::{
     addressed_within, as_bare, as_bracketed, as_named, as_new_literal, as_pointer, bare_within,

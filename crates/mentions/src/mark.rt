@@ -71,6 +71,8 @@ pub enum LiteralUse<'a> {
     Other,
     /// `defer func(..) { .. }(..)`.
     DeferredCall,
+    /// `go func(..) { .. }(..)`.
+    CallUnderGo,
     /// It is the argument of this, `g.Go` or `g.TryGo`.
     StartedBy(Named<'a>),
 }
@@ -189,6 +191,13 @@ pub enum FieldMark<'m, 'a> {
     ImportsAll,
 }
 
+/// When a literal runs that a statement calls: at the return, or in a goroutine of its own.
+#[derive(Clone, Copy)]
+pub enum Moment {
+    AtReturn,
+    InGoroutine,
+}
+
 /// What stands in a file, in the order in which its statements do what they say. A mark takes 96 bytes, since rows,
 /// calls, bodies and what is asked of fields stand in an arena.
 #[derive(Clone, Copy)]
@@ -196,8 +205,8 @@ pub enum Mark<'m, 'a> {
     Mentions(Mention<'m, 'a>),
     /// What is asked of a field, or given to others, with its site.
     OfFields(u32, &'m FieldMark<'m, 'a>),
-    /// A literal is called under `defer`: the offsets of the statement and of the literal.
-    DefersLiteral(u32, u32),
+    /// A literal is called under `defer` or `go`: the offsets of the statement and of the literal.
+    RunsLiteral(Moment, u32, u32),
     /// A return, its offset and its items.
     Returns(u32, &'a [Expr]),
     /// From here to the mark that closes it all stands in the body.

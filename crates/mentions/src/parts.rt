@@ -130,6 +130,7 @@ pub fn callee_use<'a>(place: CallPlace<'_, '_>) -> LiteralUse<'a>
 {
     match place {
         CallPlace::Deferred => LiteralUse::DeferredCall,
+        CallPlace::UnderGo => LiteralUse::CallUnderGo,
         _ => LiteralUse::Other,
     }
 }

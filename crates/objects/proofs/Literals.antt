@@ -16,7 +16,7 @@ use Rattle.tree.specs.declared.span.Span.{Span}
 use Rattle.tree.specs.Syntax.{Identifier, Expression, expression_node, composite_literal, Expressions, no_expression, expression_and, missing_expression, present_expression}
 use Rattle.tree.specs.View.{expression_form, expressions_syntax, identifier_syntax}
 use Rattle.tree.proofs.Views.{expression_form-CompositeLit}
-use Rattle.meaning.specs.Mentions.{defines, declares, BodyPlace, Mark, mentions, of_fields, defers_literal, returns, opens, closes}
+use Rattle.meaning.specs.Mentions.{defines, declares, BodyPlace, Mark, mentions, of_fields, runs_literal, returns, opens, closes}
 use Rattle.meaning.specs.Tracked.{placed, outer}
 use Rattle.meaning.specs.Objects.{is_pointer, is_literal, is_value_row}
 use Rattle.tracked_rows.specs.RowViews.{only_value_of}
@@ -100,7 +100,7 @@ module _ (test : Mark → Bool) (none : test closes ≡ false) where
   any_placed bs [] = refl
   any_placed bs (mentions m ∷ ms) = ap (λ b. test (mentions m) || b) (any_placed bs ms)
   any_placed bs (of_fields site m ∷ ms) = ap (λ b. test (of_fields site m) || b) (any_placed bs ms)
-  any_placed bs (defers_literal site at ∷ ms) = ap (λ b. test (defers_literal site at) || b) (any_placed bs ms)
+  any_placed bs (runs_literal moment site at ∷ ms) = ap (λ b. test (runs_literal moment site at) || b) (any_placed bs ms)
   any_placed bs (returns at es ∷ ms) = ap (λ b. test (returns at es) || b) (any_placed bs ms)
   any_placed bs (opens b ∷ ms) = ap (λ t. test (opens b) || t) (any_placed (b ∷ bs) ms)
   any_placed bs (closes ∷ ms) = ap (λ t. t || list_any test ms) none ∙ any_placed (outer bs) ms

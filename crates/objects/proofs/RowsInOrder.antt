@@ -8,7 +8,7 @@ use Rattle.mentions.specs.declared.mark.BodyPlace.{BodyPlace as KeptBody}
 use Rattle.mentions.specs.declared.mark.Mark.{Mark as KeptMark}
 use Rattle.mentions.specs.MarkViews.{body_view, mark_view, marks_view}
 use Rattle.meaning.specs.FunctionFacts.{CancelType}
-use Rattle.meaning.specs.Mentions.{BodyPlace, calls_field, writes_field, hands_over, hands_literal, renews, imports_all, Mark, mentions, of_fields, defers_literal, returns, opens, closes}
+use Rattle.meaning.specs.Mentions.{BodyPlace, calls_field, writes_field, hands_over, hands_literal, renews, imports_all, Mark, mentions, of_fields, runs_literal, returns, opens, closes}
 use Rattle.meaning.specs.Tracked.{Known, has_field, row_giving, Placed, placed, Local}
 use Rattle.meaning.specs.Objects.{points_to, is_value_in, unaddressed, ObjectKind, ObjectRow, local_named, type_at, object_in, object_row, object_rows_there, object_rows}
 use Rattle.tracked.specs.declared.object_rows.ObjectRow.{ObjectRow as KeptRow}
@@ -72,7 +72,7 @@ module _ (known : Known) (marks : List Placed) where
   one_mark bodies (of_fields site (renews number)) = refl
   one_mark bodies (of_fields site imports_all) = refl
   one_mark bodies (mentions m) = refl
-  one_mark bodies (defers_literal site at) = refl
+  one_mark bodies (runs_literal moment site at) = refl
   one_mark bodies (returns at es) = refl
   one_mark bodies (opens b) = refl
   one_mark bodies closes = refl
@@ -94,7 +94,7 @@ module _ (known : Known) (all : List Placed) (unbound : ℕ → Option Local) wh
   unfolding placed
   rows-mark bs (mentions m) ms = refl
   rows-mark bs (of_fields site m) ms = refl
-  rows-mark bs (defers_literal site at) ms = refl
+  rows-mark bs (runs_literal moment site at) ms = refl
   rows-mark bs (returns at es) ms = refl
   rows-mark bs (opens b) ms = refl
   rows-mark bs closes ms = refl

@@ -5,7 +5,7 @@ use Rattle.std.specs.List.{list_any}
 use Rattle.tree.specs.Syntax.{Signature, signature_of}
 use Rattle.meaning.specs.Declarations.{Meaning, local_name, import_name, function_name, package_name, universe_name}
 use Rattle.meaning.specs.FunctionFacts.{Item, items_of, item_type, plain, with_cause, FunctionFacts}
-use Rattle.meaning.specs.Mentions.{Named, RowForm, defines, assigns, declares, Row, Call, Role, left, Mention, BodyPlace, calls_field, writes_field, hands_over, hands_literal, renews, imports_all, Mark, mentions, of_fields, defers_literal, returns, opens, closes}
+use Rattle.meaning.specs.Mentions.{Named, RowForm, defines, assigns, declares, Row, Call, Role, left, Mention, BodyPlace, calls_field, writes_field, hands_over, hands_literal, renews, imports_all, Mark, mentions, of_fields, runs_literal, returns, opens, closes}
 use Rattle.meaning.specs.Tracked.{Known, has_field, ObjectLeft, facts_meant, call_giving, only_call, fits, may_bind, row_giving, Placed, parameter, receiver, result, in_block, Local, item_local, parameter_role, parameter_locals, receiver_locals, only_cancel, result_locals, receiver_items, signature_locals, row_typed, role_typed, declared_by, declared_local, locals_there, locals_of, find_local, facts_giving, is_plain_maker, is_cause_maker, maker_giving}
 use Rattle.meaning.specs.Objects.{binds_again, is_bound_again, points_to, declares_value, unaddressed, kind_by_role, points_in, object_kind, object_in, local_named, object_row, type_at, object_rows_there, object_rows}
 use Rattle.tracked.specs.LocalViews.{unbound_local}
@@ -63,7 +63,7 @@ module _ (known : Known) (lefts : ℕ → Option ObjectLeft) where
   there-same : (bs : List BodyPlace) (m : Mark) → locals_there other bs m ≡ locals_there known bs m
   there-same bs (mentions m) = declared_local-same m bs (declared_by known m)
   there-same bs (of_fields site m) = refl
-  there-same bs (defers_literal site at) = refl
+  there-same bs (runs_literal moment site at) = refl
   there-same bs (returns at es) = refl
   there-same bs (opens b) = λ i. receivers-same b (receiver_items b.receiver) i ++ signature-same b b.signature i
   there-same bs closes = refl
@@ -78,7 +78,7 @@ module _ (known : Known) (lefts : ℕ → Option ObjectLeft) where
   binds-same : (n : ℕ) (m : Mark) → binds_again other n m ≡ binds_again known n m
   binds-same n (mentions m) = refl
   binds-same n (of_fields site m) = refl
-  binds-same n (defers_literal site at) = refl
+  binds-same n (runs_literal moment site at) = refl
   binds-same n (returns at es) = refl
   binds-same n (opens b) = refl
   binds-same n closes = refl
@@ -106,7 +106,7 @@ module _ (known : Known) (lefts : ℕ → Option ObjectLeft) where
   points-same : (n : ℕ) (m : Mark) → points_to other n m ≡ points_to known n m
   points-same n (mentions m) = refl
   points-same n (of_fields site m) = refl
-  points-same n (defers_literal site at) = refl
+  points-same n (runs_literal moment site at) = refl
   points-same n (returns at es) = refl
   points-same n (opens b) = refl
   points-same n closes = refl
@@ -114,7 +114,7 @@ module _ (known : Known) (lefts : ℕ → Option ObjectLeft) where
   value-same : (n : ℕ) (m : Mark) → declares_value other n m ≡ declares_value known n m
   value-same n (mentions m) = refl
   value-same n (of_fields site m) = refl
-  value-same n (defers_literal site at) = refl
+  value-same n (runs_literal moment site at) = refl
   value-same n (returns at es) = refl
   value-same n (opens b) = refl
   value-same n closes = refl
@@ -175,7 +175,7 @@ module _ (known : Known) (lefts : ℕ → Option ObjectLeft) where
   rows_there-same ps bs (of_fields site (renews number)) = refl
   rows_there-same ps bs (of_fields site imports_all) = refl
   rows_there-same ps bs (mentions m) = refl
-  rows_there-same ps bs (defers_literal site at) = refl
+  rows_there-same ps bs (runs_literal moment site at) = refl
   rows_there-same ps bs (returns at es) = refl
   rows_there-same ps bs (opens b) = refl
   rows_there-same ps bs closes = refl

@@ -1,6 +1,6 @@
 -- A file as it is looked at, and as it is seen by what is known of it then.
 use Rattle.std.proofs.Common.{◌≡◌, ℕ, Bool, true, false, ◌&&◌, not, if◌then◌else◌, List, [], ◌∷◌, ◌++◌, Option, Some, None, flat_map, refl, sym, ap, ◌∙◌, subst}
-use Rattle.meaning.specs.Mentions.{BodyPlace, calls_field, writes_field, hands_over, hands_literal, renews, imports_all, Mark, mentions, of_fields, defers_literal, returns, opens, closes}
+use Rattle.meaning.specs.Mentions.{BodyPlace, calls_field, writes_field, hands_over, hands_literal, renews, imports_all, Mark, mentions, of_fields, runs_literal, returns, opens, closes}
 use Rattle.meaning.specs.Tracked.{Known, some_keep, ObjectLeft, row_giving, Placed, Local, locals_of}
 use Rattle.meaning.specs.Objects.{unaddressed, ObjectRow, local_named, object_in, object_row, type_at, object_rows_there, object_rows, object_left, field_locals}
 use Rattle.meaning.specs.Uses.{Seen, seen_with}
@@ -32,7 +32,7 @@ module _ (known : Known) (none : some_keep known.fields ≡ false) (ps : List Pl
   no_row bs (of_fields site (renews number)) = refl
   no_row bs (of_fields site imports_all) = refl
   no_row bs (mentions m) = refl
-  no_row bs (defers_literal site at) = refl
+  no_row bs (runs_literal moment site at) = refl
   no_row bs (returns at es) = refl
   no_row bs (opens b) = refl
   no_row bs closes = refl

@@ -149,8 +149,11 @@ told_sync κ =
             (
               search (sendable, lists.the_sync),
               (
-                search (sendable, vec.the_sync, alloc.the_sync),
-                (search (sendable, vec.the_sync, alloc.the_sync, place_sync), tt),
+                search (sendable, lists.the_sync),
+                (
+                  search (sendable, vec.the_sync, alloc.the_sync),
+                  (search (sendable, vec.the_sync, alloc.the_sync, place_sync), tt),
+                ),
               ),
             ),
           ),
@@ -174,7 +177,10 @@ told_send κ =
             search (sendable, lists.the_send, event.the_send),
             (
               search (sendable, lists.the_send),
-              (search (sendable, crosses), (search (sendable, crosses, place_send), tt)),
+              (
+                search (sendable, lists.the_send),
+                (search (sendable, crosses), (search (sendable, crosses, place_send), tt)),
+              ),
             ),
           ),
         ),
@@ -193,7 +199,13 @@ body_sync κ ι =
         search (sendable, place_sync),
         (
           search (sendable, vec.the_sync, alloc.the_sync, variable.the_sync),
-          (search sendable, (search (sendable, option.the_sync, graph.the_sync), tt)),
+          (
+            search sendable,
+            (
+              search (sendable, edition.the_sync),
+              (search sendable, (search (sendable, option.the_sync, graph.the_sync), tt)),
+            ),
+          ),
         ),
       ),
     )
@@ -206,7 +218,13 @@ body_send κ ι =
         search (sendable, place_send),
         (
           search (sendable, crosses, variable.the_send),
-          (search sendable, (search (sendable, option.the_send, graph.the_send), tt)),
+          (
+            search sendable,
+            (
+              search (sendable, edition.the_send),
+              (search sendable, (search (sendable, option.the_send, graph.the_send), tt)),
+            ),
+          ),
         ),
       ),
     )

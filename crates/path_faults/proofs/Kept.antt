@@ -9,7 +9,7 @@ use Rattle.meaning.specs.Code.{Occurrence}
 use Rattle.meaning.specs.Lists.{Reaches}
 use Rattle.meaning.specs.FunctionFacts.{VariableKind, cancel, group}
 use Rattle.meaning.specs.Tracked.{live, idle}
-use Rattle.meaning.specs.Uses.{VariableAt, Handed, Event, other, obtain, obtain_kept, renew, keep, call_kept, defer_kept, give, give_field, clear, call, defer_call, pass, defer_pass, lend, start, try, wait, defer_wait, make, defer_literal, return_event, is_cancel, is_group}
+use Rattle.meaning.specs.Uses.{VariableAt, Handed, Event, other, obtain, obtain_kept, renew, keep, call_kept, defer_kept, give, give_field, clear, call, defer_call, pass, defer_pass, lend, start, try, wait, defer_wait, make, defer_literal, go, return_event, is_cancel, is_group}
 use Rattle.meaning.specs.BodyEvents.{Variable}
 use Rattle.meaning.specs.Classes.{CancelClass, unset, opened, kept, safe, pending, GroupClass, unmade, in_state, awaited}
 use Rattle.flow.specs.GraphOfCode.{nodes}
@@ -195,6 +195,7 @@ return_of (wait g) e = absurd (false≢true e)
 return_of (defer_wait g) e = absurd (false≢true e)
 return_of (make u s) e = absurd (false≢true e)
 return_of (defer_literal l) e = absurd (false≢true e)
+return_of (go work) e = absurd (false≢true e)
 
 module _ (b : Paths) (cancels : Cancels) (groups : Groups) (pending_groups : List ℕ)
     (tells : Classifies b.code b.promises b.variables cancels groups)
@@ -511,6 +512,7 @@ module _ (b : Paths) (cancels : Cancels) (groups : Groups) (pending_groups : Lis
   node_found n o here f (wait g) is h = absurd (contains_nil f h)
   node_found n o here f (defer_wait g) is h = absurd (contains_nil f h)
   node_found n o here f (defer_literal l) is h = absurd (contains_nil f h)
+  node_found n o here f (go work) is h = absurd (contains_nil f h)
 
   abbrev all_faults : List PathFault
   all_faults = faults_of_nodes vs cancels groups pending_groups lives os

@@ -1,3 +1,4 @@
+pub mod CameBack
 pub mod Kept
 pub mod Passed
 pub mod Places

@@ -4,7 +4,7 @@ use Rattle.std.proofs.lemmas.Bool.{and_parts, and_from}
 use Rattle.std.proofs.lemmas.List.Elements.{Contains-append_left, Contains-append_right, Contains-append_cases}
 use Rattle.meaning.proofs.Membership.{contains_nil, contains_here, contains_there, contains_cases}
 use Rattle.tree.specs.declared.edition.Edition.TheVariants.{First, Second}
-use Rattle.meaning.specs.Uses.{VariableAt, Event, other, obtain, obtain_kept, renew, keep, call_kept, defer_kept, give, give_field, clear, call, defer_call, pass, defer_pass, lend, start, try, wait, defer_wait, make, defer_literal, return_event, is_cancel}
+use Rattle.meaning.specs.Uses.{VariableAt, Event, other, obtain, obtain_kept, renew, keep, call_kept, defer_kept, give, give_field, clear, call, defer_call, pass, defer_pass, lend, start, try, wait, defer_wait, make, defer_literal, go, return_event, is_cancel}
 use Rattle.meaning.specs.BodyEvents.{Variable}
 use Rattle.meaning.specs.Classes.{Promises}
 use Rattle.events.specs.declared.told.SiteEvent.{SiteEvent}
@@ -123,6 +123,7 @@ module _ (vs : List Variable) (p : Promises) where
   passing (defer_wait g) f h = absurd (contains_nil f h)
   passing (make u s) f h = absurd (contains_nil f h)
   passing (defer_literal l) f h = absurd (contains_nil f h)
+  passing (go work) f h = absurd (contains_nil f h)
   passing (return_event handed) f h = absurd (contains_nil f h)
 
   passes_it : {e : Event} {u : VariableAt} → PassesOn p e u → (f : PathFault) → Contains (passed_faults vs u) f

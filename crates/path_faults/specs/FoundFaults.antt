@@ -5,10 +5,10 @@ use Rattle.std.specs.Prelude.{ℕ, ◌+◌, ◌==◌, Bool, true, false, not, �
 use Rattle.std.specs.List.{list_any}
 use Rattle.meaning.specs.Code.{Occurrence}
 use Rattle.meaning.specs.FunctionFacts.{VariableKind, cancel, group}
-use Rattle.meaning.specs.Tracked.{live}
+use Rattle.meaning.specs.Tracked.{live, idle}
 use Rattle.meaning.specs.Uses.{VariableAt, Handed, Event, obtain, obtain_kept, clear, pass, defer_pass, make, return_event, is_cancel, is_group}
 use Rattle.meaning.specs.BodyEvents.{Variable}
-use Rattle.meaning.specs.Classes.{Promises, CancelClass, unset, opened, kept, pending, GroupClass, in_state}
+use Rattle.meaning.specs.Classes.{Promises, CancelClass, unset, opened, kept, safe, pending, GroupClass, unmade, in_state, awaited}
 use Rattle.meaning_packages.specs.PathFaults.{PathCode, overwritten, not_called, group_is_live, group_overwritten, left_to_live_group, passed_on, PathFault, is_declared, makes_it, is_handed, is_handed_kept}
 
 -- what each element of a list gives, with its place, where the first has the place n
@@ -191,6 +191,19 @@ is_unsettled cancels groups pending_groups group = groups (in_state live)
 abbrev pub breaks_settling : Cancels → Groups → List ℕ → List (Occurrence Event) → ℕ → VariableKind → Bool
 breaks_settling cancels groups pending_groups nodes i kind = any_from
     (λ n o. is_return o.event && is_unsettled (cancels i n) (groups i n) pending_groups kind) 0 nodes
+
+-- some class of it is there
+abbrev pub is_reached : (CancelClass → Bool) → (GroupClass → Bool) → List ℕ → VariableKind → Bool
+is_reached cancels groups pending_groups cancel =
+    cancels unset
+    || (cancels opened || (cancels kept || (cancels safe || list_any (λ g. cancels (pending g)) pending_groups)))
+is_reached cancels groups pending_groups group =
+    groups unmade || (groups (in_state idle) || (groups (in_state live) || groups awaited))
+
+-- some class of the variable of the place i and of that kind arrives at a return
+abbrev pub some_return_is_reached : Cancels → Groups → List ℕ → List (Occurrence Event) → ℕ → VariableKind → Bool
+some_return_is_reached cancels groups pending_groups nodes i kind = any_from
+    (λ n o. is_return o.event && is_reached (cancels i n) (groups i n) pending_groups kind) 0 nodes
 
 -- Passes
 

@@ -79,7 +79,7 @@ pub fn keeps_call<'a, A: Arrivals>(
 }
 
 /// Whether the cancel variable at that place in the list may be pending at the node.
-fn is_pending<A: Arrivals>(arrivals: &A, node: usize, variable: usize) -> bool
+pub fn is_pending<A: Arrivals>(arrivals: &A, node: usize, variable: usize) -> bool
     ensures { result ≡ list_any (λ g. A.cancels arrivals.now variable node (pending g))
         (A.pending_groups arrivals.now) }
 {

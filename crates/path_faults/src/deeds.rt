@@ -52,7 +52,10 @@ fn deed_of_event<'e>(event: &'e Event<'_>) -> Deed<'e>
         | Event::Try { .. }
         | Event::Wait { .. }
         | Event::DeferWait { .. }
-        | Event::DeferLiteral { .. } => Deed::Nothing,
+        | Event::DeferLiteral { .. }
+        | Event::GoCall { .. }
+        | Event::GoPass { .. }
+        | Event::GoLiteral { .. } => Deed::Nothing,
     }
 }
 

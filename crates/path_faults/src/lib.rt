@@ -12,6 +12,7 @@ mod live;
 mod losses;
 mod passes;
 mod paths;
+mod reached;
 mod returns;
 
 pub use answers::{breaks_settling, keeps_call, settles};
@@ -22,4 +23,5 @@ pub use kinds::{is_declared, is_handed, is_handed_kept, makes_it, owes_call};
 pub use live::{LiveGroups, Lives, live_groups};
 pub use passes::pass_faults;
 pub use paths::path_faults;
+pub use reached::comes_back;
 pub use returns::is_uncalled;

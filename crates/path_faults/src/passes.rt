@@ -96,6 +96,9 @@ fn add_passing<'a, P: Promises>(
         | Event::DeferWait { .. }
         | Event::Make { .. }
         | Event::DeferLiteral { .. }
+        | Event::GoCall { .. }
+        | Event::GoPass { .. }
+        | Event::GoLiteral { .. }
         | Event::Return { .. } => Ok(()),
     }
 }

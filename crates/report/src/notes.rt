@@ -26,11 +26,13 @@ pub struct Note<'a> {
     pub text: NoteText<'a>,
 }
 
-/// A diagnostic and its notes, in the order in which they are to be read.
+/// A diagnostic and its notes, in the order in which they are to be read, and where in its file the way goes of which
+/// they tell: the byte offsets of its statements, in the order of the text, each once; none where they tell of none.
 #[derive(Debug, Drop)]
 pub struct ExplainedDiagnostic<'a> {
     pub diagnostic: Diagnostic<'a>,
     pub notes: Vec<Note<'a>>,
+    pub way: Vec<u32>,
 }
 
 /// What is said of the package of this import path, whose files are the sources, and why.

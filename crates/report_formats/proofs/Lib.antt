@@ -1,11 +1,6 @@
-pub mod JsonPieces
-pub mod FindingPieces
-pub mod BindingCounts
 pub mod UnitFindings
 pub mod NoteLines
 pub mod KeepingLines
 pub mod ShownLines
 pub mod TextParts
 pub mod TextExamples
-pub mod FunctionPieces
-pub mod NoteTurns

@@ -5,7 +5,7 @@ use Rattle.accepting.specs.Found.{told_in}
 use Rattle.accepting.specs.declared.telling.Telling.{Telling}
 use Rattle.report.specs.declared.format.Format.{Format}
 use Rattle.report.specs.declared.format.Format.TheVariants.{Text, Json, Sarif}
-use Rattle.report_formats.specs.JsonText.{json_text}
+use Rattle.report_json.specs.JsonText.{json_text}
 use Rattle.report_formats.specs.ReportLines.{report_text}
 use Rattle.sarif.specs.SarifText.{sarif_text}
 use Rattle.format_parts.specs.Told.{style_of}

@@ -5,11 +5,11 @@ ghost use Rattle.accepting.specs.Findings.{found_view};
 ghost use Rattle.report.specs.Writing.{refusals_after, IsWritten};
 ghost use Rattle.report_formats.specs.Formats.{text_of};
 
-use crate::json_report::write_json;
 use crate::report_lines::write_text;
 use accepting::{FoundPackage, Telling};
 use format_parts::style_of;
 use report::{Format, Sink, WriteFault};
+use report_json::write_json;
 use sarif::write_sarif;
 
 /// Writes the report of these packages, in which all that is accepted is found, in the form that is asked for, and

@@ -1,15 +1,9 @@
 //! A report in its forms: as text, as JSON and as SARIF, written into whatever takes bytes; and the report of a unit.
 #![tactic(auto)]
 
-mod causes;
 mod formats;
-mod in_functions;
-mod json_report;
 mod laws;
-mod note_kinds;
-mod places;
 mod report_lines;
-mod turns;
 mod unit_json;
 mod unit_text;
 

@@ -14,16 +14,16 @@ use Rattle.meaning.specs.Scopes.{is_blank}
 use Rattle.meaning.specs.Jumps.{jumps_in}
 use Rattle.meaning.specs.OuterBlocks.{or_else, has_any}
 use Rattle.meaning.specs.Declarations.{Meaning, local_name, import_name, function_name, package_name, universe_name}
-use Rattle.meaning.specs.Mentions.{Named, as_named, as_pointer, RowForm, defines, assigns, declares, Row, Call, Role, elsewhere, as_key, exposed, pointed_to, found_nil, found_error, called, called_in_brackets, argument, returned, left, names_type, new_literal, parameter_pointer, Mention, BodyPlace, FieldLeft, Assigned, FieldMark, calls_field, writes_field, hands_over, hands_literal, renews, imports_all, Mark, mentions, of_fields, defers_literal, returns, opens, closes, as_new_literal}
-use Rattle.meaning.specs.FunctionFacts.{Meanings, context_path, errgroup_path, is_import, is_selected, is_of, is_of_some, cancel_type_of_name, is_group_pointer, tracked_type, Item, items_of, item_type, kind_of_type, TrackedType, cancel, cancel_or_group, group, group_or_none, plain, with_cause}
+use Rattle.meaning.specs.Mentions.{as_bare, is_none_left, Moment, at_return, in_goroutine, Named, as_named, as_pointer, RowForm, defines, assigns, declares, Row, Call, Role, elsewhere, as_key, exposed, pointed_to, found_nil, found_error, called, called_in_brackets, argument, returned, left, names_type, new_literal, parameter_pointer, Mention, BodyPlace, FieldLeft, Assigned, FieldMark, calls_field, writes_field, hands_over, hands_literal, renews, imports_all, Mark, mentions, of_fields, runs_literal, returns, opens, closes, as_new_literal}
+use Rattle.meaning.specs.FunctionFacts.{cancel_type, Meanings, context_path, errgroup_path, is_import, is_selected, is_of, is_of_some, cancel_type_of_name, is_group_pointer, tracked_type, Item, items_of, item_type, kind_of_type, TrackedType, cancel, cancel_or_group, group, group_or_none, plain, with_cause}
 use Rattle.meaning.specs.Tracked.{Known, has_field, ObjectLeft, left_of_outer, left_of_new, facts_of, facts_meant, facts_giving, plain_makers, cause_makers, is_plain_maker, is_maker, giving_of, call_giving, variable_of, declared_by, may_bind, only_call, fits, row_giving, obtains_there, row_obtains, GroupState, is_group_type, is_new_call, made_by_call, made_by_value, made_by_values, if_first, made_by_type, made_by_pair, made_by_form, row_makes, lefts_of_expressions, local_at, Placed, outer, placed, LocalRole, Local, item_local, parameter_role, parameter_locals, receiver_locals, only_cancel, result_locals, receiver_items, signature_locals, body_locals, parameter, receiver, result, row_typed, role_typed, declared_local, locals_there, locals_of, find_local, is_variable, is_obtained_by, is_made_by, obtains_in, makes_in, kind_by_rows, kind_of_local, call_in, idle, is_of_universe, is_universe, live, maker_giving}
 use Rattle.meaning.proofs.Membership.{contains_nil, contains_cases, contains_unmap}
-use Rattle.meaning_reports.specs.UsedImports.{HandsTo, passes, defers, lends}
+use Rattle.meaning_reports.specs.UsedImports.{HandsTo, passes, defers, lends, goes}
 use Rattle.meaning.specs.Objects.{unaddressed, ObjectKind, object_in, local_named, type_at, object_row, object_rows_there, object_rows}
 use Rattle.meaning.specs.Kept.{Element, Gift, named_gift, element_gift, gifts, takes_it, is_block_role, owned, own_cancel, is_field_meant, field_value, kept_in, kept_element, role_fields, stored_name, stored_keeps, holder, keeps_by_mark, object_kind_of, keeps_there, belongs, by_variable, kept_of, is_of_body, kept_there, field_call, field_calls, renew_all, keep_event, keep_events, declared_at_name, declared_events, role_events, object_events, give_all, given_field, carried, gift_events, mentioned_in, in_order_of_place, first_mentions, obtained_event, written_events, field_events}
 use Rattle.meaning.specs.KeepingFields.{is_obtained_in, carried_field, obtained_fields, given_elements, fields_kept_there, fields_kept}
-use Rattle.meaning.specs.Uses.{Callee, Handed, Event, call, defer_literal, return_event, error_events, lost_to, Outcome, Seen, seen_with, found, is_own, row_binds, are_cancels, field_obtained, field_left_faults, field_variable, field_faults, may_be_tracked, tracked_kind, is_outside, is_body, nothing, variable_outcome, role_outcome, row_outcome, mention_outcome, local_outcome, binding_at, giving_faults, errgroup_faults, recover_faults, mention_faults, is_cancel, is_result, result_faults, bound_again, fault_at, group_used_otherwise, if_not, is_made_or_parameter, last_fault, recover_used, goto_used}
-use Rattle.meaning.specs.BodyEvents.{Variable, mark_faults, outer_faults_of, faults_of, variable_there, variable_found, variables_among, variables_of, in_their_order, is_captured_there, forbids_recover, jump_faults, handed_on, mark_events, events_at, is_site}
+use Rattle.meaning.specs.Uses.{Callee, callee_of, Sent, go_literal, cancel_type_of, is_under_go, takes, Handed, Event, call, defer_literal, go, return_event, error_events, lost_to, Outcome, Seen, seen_with, found, is_own, row_binds, are_cancels, field_obtained, field_left_faults, field_variable, field_faults, may_be_tracked, tracked_kind, is_outside, is_body, nothing, variable_outcome, role_outcome, row_outcome, mention_outcome, local_outcome, binding_at, giving_faults, errgroup_faults, recover_faults, mention_faults, is_cancel, is_result, result_faults, bound_again, fault_at, group_used_otherwise, if_not, is_made_or_parameter, last_fault, recover_used, goto_used}
+use Rattle.meaning.specs.BodyEvents.{is_in_block, item_variable, sent_there, sent_from, function_sent, sent_in_role, sent_events, literal_events, Variable, mark_faults, outer_faults_of, faults_of, variable_there, variable_found, variables_among, variables_of, in_their_order, is_captured_there, forbids_recover, jump_faults, handed_on, mark_events, events_at, is_site}
 use Rattle.silent_files.specs.SilentFiles.{IsSilent, GivesNothing, GivesByContext, tells, named_tells, call_tells, type_tells, items_tell, signature_tells, form_tells, row_tells, role_tells, field_tells, mark_tells, names_recover}
 use Rattle.silent_files.specs.SilentLaws.{SilentFilesAreSilent, FilesWithoutMakersAreSilent}
 
@@ -350,7 +350,7 @@ module _ (known : Known) (gives : GivesByContext known) where
   there_untyped bodies (mentions m) h =
       declared_untyped m bodies (declared_by known m) (neither_second (tells known m.named) _ h)
   there_untyped bodies (of_fields site m) h = tt
-  there_untyped bodies (defers_literal site at) h = tt
+  there_untyped bodies (runs_literal moment site at) h = tt
   there_untyped bodies (returns at es) h = tt
   there_untyped bodies (opens b) h = body_untyped b h
   there_untyped bodies closes h = tt
@@ -404,7 +404,7 @@ module _ (known : Known) (gives : GivesByContext known) where
       not_both (is_variable (variable_of known m) number) _
       (not_obtained m m.role (neither_second (tells known m.named) _ h))
   no_obtaining number (of_fields site m) h = refl
-  no_obtaining number (defers_literal site at) h = refl
+  no_obtaining number (runs_literal moment site at) h = refl
   no_obtaining number (returns at es) h = refl
   no_obtaining number (opens b) h = refl
   no_obtaining number closes h = refl
@@ -420,7 +420,7 @@ module _ (known : Known) (gives : GivesByContext known) where
   no_making : (number : ℕ) (mark : Mark) → makes_in known number mark ≡ false
   no_making number (mentions m) = not_both (is_variable (variable_of known m) number) _ (not_made m m.role)
   no_making number (of_fields site m) = refl
-  no_making number (defers_literal site at) = refl
+  no_making number (runs_literal moment site at) = refl
   no_making number (returns at es) = refl
   no_making number (opens b) = refl
   no_making number closes = refl
@@ -445,16 +445,40 @@ literal_hands_nothing : (at : ℕ) (e : Event) (f : Callee) → e ≡ defer_lite
 literal_hands_nothing at e f same passes = cc
 literal_hands_nothing at e f same defers = cc
 literal_hands_nothing at e f same lends = cc
+literal_hands_nothing at e f same goes = cc
+
+gone_hands_nothing : (at : ℕ) (e : Event) (f : Callee) → e ≡ go (go_literal at) → HandsTo f e → ⊥
+gone_hands_nothing at e f same passes = cc
+gone_hands_nothing at e f same defers = cc
+gone_hands_nothing at e f same lends = cc
+gone_hands_nothing at e f same goes = cc
+
+run_hands_nothing : (edition : Edition) (moment : Moment) (at : ℕ) (e : Event) (f : Callee) → HandsTo f e
+    → Contains (literal_events edition moment at) e
+    → ⊥
+run_hands_nothing edition at_return at e f h c =
+    elim (contains_cases (defer_literal at) e [] c) [
+      | inl same ↦ literal_hands_nothing at e f (sym same) h
+      | inr n ↦ contains_nil e n
+    ]
+run_hands_nothing First in_goroutine at e f h c = contains_nil e c
+run_hands_nothing Second in_goroutine at e f h c =
+    elim (contains_cases (go (go_literal at)) e [] c) [
+      | inl same ↦ gone_hands_nothing at e f (sym same) h
+      | inr n ↦ contains_nil e n
+    ]
 
 return_hands_nothing : (handed : List Handed) (e : Event) (f : Callee) → e ≡ return_event handed → HandsTo f e → ⊥
 return_hands_nothing handed e f same passes = cc
 return_hands_nothing handed e f same defers = cc
 return_hands_nothing handed e f same lends = cc
+return_hands_nothing handed e f same goes = cc
 
 call_hands_nothing : (number : ℕ) (e : Event) (f : Callee) → e ≡ call number → HandsTo f e → ⊥
 call_hands_nothing number e f same passes = cc
 call_hands_nothing number e f same defers = cc
 call_hands_nothing number e f same lends = cc
+call_hands_nothing number e f same goes = cc
 
 -- what was not given where an error was is only called
 calls_hand_nothing : (seen : Seen) (m : Mention) (r : Role) (e : Event) (f : Callee) → HandsTo f e
@@ -593,7 +617,7 @@ module _ (known : Known) (gives : GivesByContext known) (ps : List Placed)
   no_mark_fault bodies (mentions m) h e = λ i.
       no_mention_fault bodies m (neither_first _ _ h) i ++ no_recover_fault bodies m e i
   no_mark_fault bodies (of_fields site m) h e = no_field_fault m h
-  no_mark_fault bodies (defers_literal site at) h e = refl
+  no_mark_fault bodies (runs_literal moment site at) h e = refl
   no_mark_fault bodies (returns at es) h e = refl
   no_mark_fault bodies (opens b) h e = λ i.
       no_result_fault (body_locals known b) (body_untyped known gives b h) i ++ no_jump_fault b i
@@ -685,7 +709,7 @@ module _ (known : Known) (gives : GivesByContext known) (ps : List Placed)
   no_keep_by bodies (of_fields site (hands_literal taker at)) = refl
   no_keep_by bodies (of_fields site (renews number)) = refl
   no_keep_by bodies (of_fields site imports_all) = refl
-  no_keep_by bodies (defers_literal site at) = refl
+  no_keep_by bodies (runs_literal moment site at) = refl
   no_keep_by bodies (returns at es) = refl
   no_keep_by bodies (opens b) = refl
   no_keep_by bodies closes = refl
@@ -780,7 +804,7 @@ module _ (known : Known) (gives : GivesByContext known) (ps : List Placed)
     no_obtained_field (of_fields site (renews number)) = refl
     no_obtained_field (of_fields site imports_all) = refl
     no_obtained_field (mentions m) = refl
-    no_obtained_field (defers_literal site at) = refl
+    no_obtained_field (runs_literal moment site at) = refl
     no_obtained_field (returns at es) = refl
     no_obtained_field (opens b) = refl
     no_obtained_field closes = refl
@@ -796,25 +820,82 @@ module _ (known : Known) (gives : GivesByContext known) (ps : List Placed)
 
   -- Events
 
+  never_sent : (own takes_it : Bool) → (own && (false && takes_it)) ≡ false
+  never_sent true takes_it = refl
+  never_sent false takes_it = refl
+
+  nobody_sent : (bodies : List BodyPlace) (c : Call) (k : ℕ) (o : Option Local)
+      → ((l : Local) → o ≡ Some l → l.typed ≡ None)
+      → sent_there seen bodies c k o ≡ []
+  nobody_sent bodies c k None h = refl
+  nobody_sent bodies c k (Some l) h =
+      ap (λ b. if b then record { number = l.number; position = k } ∷ [] else [])
+      (ap (λ kind. (is_own l bodies && is_in_block l.role)
+      && (is_cancel kind && takes known c (cancel_type (cancel_type_of seen l)) k)) (not_tracked l (h l refl))
+      ∙ never_sent (is_own l bodies && is_in_block l.role) (takes known c (cancel_type (cancel_type_of seen l)) k))
+
+  no_argument_sent : (last : Bool) (xs : List Sent) → xs ≡ [] → ((if last then [] else xs) ++ []) ≡ []
+  no_argument_sent true xs none = refl
+  no_argument_sent false xs none = ap (λ ys. ys ++ []) none
+
+  no_sent_from : (bodies : List BodyPlace) (c : Call) (k : ℕ) (es : Expressions) → sent_from seen bodies c k es ≡ []
+  no_sent_from bodies c k no_expression = refl
+  no_sent_from bodies c k (expression_and e es) =
+      let v = item_variable known (as_bare e) in
+      ap (λ rest. (if is_none_left es && c.has_ellipsis then [] else sent_there seen bodies c k (found seen v)) ++ rest)
+      (no_sent_from bodies c (k + 1) es)
+      ∙ no_argument_sent (is_none_left es && c.has_ellipsis) (sent_there seen bodies c k (found seen v))
+      (nobody_sent bodies c k (found seen v) (found_so v))
+
+  no_role_sent : (bodies : List BodyPlace) (r : Role) → sent_in_role seen bodies r ≡ []
+  no_role_sent bodies (called c) =
+      ap (λ xs. if is_under_go c.place then function_sent (callee_of known c.callee) xs else []) (no_sent_from bodies c 0 c.arguments)
+      ∙ by (is_under_go c.place)
+    where
+      by : (b : Bool) → (if b then function_sent (callee_of known c.callee) [] else []) ≡ []
+      by true = refl
+      by false = refl
+  no_role_sent bodies elsewhere = refl
+  no_role_sent bodies as_key = refl
+  no_role_sent bodies exposed = refl
+  no_role_sent bodies pointed_to = refl
+  no_role_sent bodies (found_nil nil) = refl
+  no_role_sent bodies (found_error nil row) = refl
+  no_role_sent bodies called_in_brackets = refl
+  no_role_sent bodies (argument k has_address c) = refl
+  no_role_sent bodies (returned k) = refl
+  no_role_sent bodies (left k row) = refl
+  no_role_sent bodies (names_type row) = refl
+  no_role_sent bodies (new_literal row) = refl
+  no_role_sent bodies parameter_pointer = refl
+
+  no_sent : (bodies : List BodyPlace) (m : Mention) → sent_events known.edition seen bodies m ≡ []
+  no_sent bodies m = by known.edition
+    where
+      by : (e : Edition) → sent_events e seen bodies m ≡ []
+      by First = refl
+      by Second = no_role_sent bodies m.role
+
   mark_hands_nothing : (bodies : List BodyPlace) (mark : Mark) (e : Event) (f : Callee) → HandsTo f e
       → Contains (mark_events seen bodies mark) e
       → ⊥
   mark_hands_nothing bodies (mentions m) e f h c =
-      elim (Contains-append_cases (variable_outcome seen bodies m).events
-      (error_events seen m m.role ++ object_events seen bodies m) e c) [
+      let lost = error_events seen m m.role in
+      let of_objects = object_events seen bodies m in
+      let sent = sent_events known.edition seen bodies m in
+      elim (Contains-append_cases (variable_outcome seen bodies m).events (lost ++ (of_objects ++ sent)) e c) [
         | inl own ↦ contains_nil e (subst (λ (o : Outcome). Contains o.events e) (variable_nothing bodies m) own)
-        | inr others ↦ elim (Contains-append_cases (error_events seen m m.role) (object_events seen bodies m) e others) [
-          | inl lost ↦ calls_hand_nothing seen m m.role e f h lost
-          | inr kept ↦ contains_nil e (subst (λ es. Contains es e) (no_object_event bodies m m.role) kept)
+        | inr others ↦ elim (Contains-append_cases lost (of_objects ++ sent) e others) [
+          | inl x ↦ calls_hand_nothing seen m m.role e f h x
+          | inr rest ↦ elim (Contains-append_cases of_objects sent e rest) [
+            | inl kept ↦ contains_nil e (subst (λ es. Contains es e) (no_object_event bodies m m.role) kept)
+            | inr x ↦ contains_nil e (subst (λ es. Contains es e) (no_sent bodies m) x)
+          ]
         ]
       ]
   mark_hands_nothing bodies (of_fields site m) e f h c =
       contains_nil e (subst (λ es. Contains es e) (no_field_event bodies (of_fields site m) m) c)
-  mark_hands_nothing bodies (defers_literal site at) e f h c =
-      elim (contains_cases (defer_literal at) e [] c) [
-        | inl same ↦ literal_hands_nothing at e f (sym same) h
-        | inr n ↦ contains_nil e n
-      ]
+  mark_hands_nothing bodies (runs_literal moment site at) e f h c = run_hands_nothing known.edition moment at e f h c
   mark_hands_nothing bodies (returns at es) e f h c =
       elim (contains_cases (return_event (handed_on seen bodies 0 es)) e [] c) [
         | inl same ↦ return_hands_nothing (handed_on seen bodies 0 es) e f (sym same) h
@@ -852,10 +933,10 @@ none_placed f bodies (mentions m ∷ ms) h =
 none_placed f bodies (of_fields site m ∷ ms) h =
     ap (λ b. b || list_any (λ (p : Placed). f p.mark) (placed bodies ms)) (neither_first (f (of_fields site m)) _ h)
     ∙ none_placed f bodies ms (neither_second (f (of_fields site m)) _ h)
-none_placed f bodies (defers_literal site at ∷ ms) h =
+none_placed f bodies (runs_literal moment site at ∷ ms) h =
     ap (λ b. b || list_any (λ (p : Placed). f p.mark) (placed bodies ms))
-    (neither_first (f (defers_literal site at)) _ h)
-    ∙ none_placed f bodies ms (neither_second (f (defers_literal site at)) _ h)
+    (neither_first (f (runs_literal moment site at)) _ h)
+    ∙ none_placed f bodies ms (neither_second (f (runs_literal moment site at)) _ h)
 none_placed f bodies (returns at es ∷ ms) h =
     ap (λ b. b || list_any (λ (p : Placed). f p.mark) (placed bodies ms)) (neither_first (f (returns at es)) _ h)
     ∙ none_placed f bodies ms (neither_second (f (returns at es)) _ h)
@@ -935,7 +1016,7 @@ module _ (known other : Known) (same : known.means ≡ other.means) where
   pub tells_the_same : (m : Mark) → mark_tells known m ≡ mark_tells other m
   tells_the_same (mentions m) = λ i. name_same m.named i || role_same m.role i
   tells_the_same (of_fields site m) = field_same m
-  tells_the_same (defers_literal site at) = refl
+  tells_the_same (runs_literal moment site at) = refl
   tells_the_same (returns at es) = refl
   tells_the_same (opens b) = λ i. items_same (receiver_items b.receiver) i || signature_same b.signature i
   tells_the_same closes = refl
@@ -1007,7 +1088,7 @@ module _ (known : Known) (gives : GivesByContext known) (all : List Placed) wher
   no_row_there bodies (of_fields site (renews number)) h = refl
   no_row_there bodies (of_fields site imports_all) h = refl
   no_row_there bodies (mentions m) h = refl
-  no_row_there bodies (defers_literal site at) h = refl
+  no_row_there bodies (runs_literal moment site at) h = refl
   no_row_there bodies (returns at es) h = refl
   no_row_there bodies (opens b) h = refl
   no_row_there bodies closes h = refl
@@ -1143,7 +1224,7 @@ module _ (known : Known) (gives : GivesNothing known) where
   pub no_mark_tells : (mark : Mark) → mark_tells known mark ≡ false
   no_mark_tells (mentions m) = λ i. none_tells m.named i || no_role_tells m.role i
   no_mark_tells (of_fields site m) = no_field_tells m
-  no_mark_tells (defers_literal site at) = refl
+  no_mark_tells (runs_literal moment site at) = refl
   no_mark_tells (returns at es) = refl
   no_mark_tells (opens b) = λ i. no_items_tell (receiver_items b.receiver) i || no_signature_tells b.signature i
   no_mark_tells closes = refl

@@ -108,6 +108,7 @@ kept_by files others imported flags stand name k kept =
       variable = kept.variable;
       is_of_package = subst (λ y. Contains others y) (sym same) there;
       is_claim = kept.is_claim;
+      comes_back = kept.comes_back;
       keeps = kept.keeps;
     }
     by g there (silent one other) kept same =

@@ -5,7 +5,7 @@ use Rattle.std.specs.List.{list_any}
 use Rattle.std.proofs.lemmas.List.Elements.{Contains-append_left, Contains-append_right}
 use Rattle.lexer.specs.Tokens.{IsTokens}
 use Rattle.tree.specs.Syntax.{Identifier, OptionalExpression, missing_expression, present_expression, Signature, signature_of, Parameters, no_parameter, named_and, unnamed_and, name_alone_and}
-use Rattle.meaning.specs.Mentions.{Named, as_named, RowForm, defines, assigns, declares, Call, Role, elsewhere, as_key, exposed, pointed_to, found_nil, found_error, called, called_in_brackets, argument, returned, left, names_type, new_literal, parameter_pointer, Row, FieldMark, calls_field, writes_field, hands_over, hands_literal, renews, imports_all, Mark, mentions, of_fields, defers_literal, returns, opens, closes, file_marks}
+use Rattle.meaning.specs.Mentions.{Named, as_named, RowForm, defines, assigns, declares, Call, Role, elsewhere, as_key, exposed, pointed_to, found_nil, found_error, called, called_in_brackets, argument, returned, left, names_type, new_literal, parameter_pointer, Row, FieldMark, calls_field, writes_field, hands_over, hands_literal, renews, imports_all, Mark, mentions, of_fields, runs_literal, returns, opens, closes, file_marks}
 use Rattle.meaning.specs.FunctionFacts.{context_path, is_of, is_import, is_selected, Item, alone, items_of}
 use Rattle.meaning.specs.Tracked.{Known, plain_makers, cause_makers, only_call, receiver_items}
 use Rattle.meaning.proofs.Membership.{contains_here, contains_there}
@@ -51,7 +51,7 @@ module _ (source : Lexed) (cut : IsTokens source.text source.tokens) where
   is_no_recover lacks (mentions m) h =
       lacked_words_are_no_names source (codes "recover") m.named.name m.named.at cut lacks h.0.name
   is_no_recover lacks (of_fields site m) h = refl
-  is_no_recover lacks (defers_literal site at) h = refl
+  is_no_recover lacks (runs_literal moment site at) h = refl
   is_no_recover lacks (returns at es) h = refl
   is_no_recover lacks (opens b) h = refl
   is_no_recover lacks closes h = refl
@@ -149,7 +149,7 @@ module _ (source : Lexed) (cut : IsTokens source.text source.tokens) where
     mark_tells_none : (m : Mark) → HasWords source m → mark_tells known m ≡ false
     mark_tells_none (mentions m) h = neither _ _ (tells_none m.named h.0) (role_tells_none m.role h.1)
     mark_tells_none (of_fields site m) h = field_tells_none m h
-    mark_tells_none (defers_literal site at) h = refl
+    mark_tells_none (runs_literal moment site at) h = refl
     mark_tells_none (returns at es) h = refl
     mark_tells_none (opens b) h = neither _ _ (receiver_tells_none b.receiver h.0) (signature_tells_none b.signature h.1)
     mark_tells_none closes h = refl

@@ -15,7 +15,7 @@ use Rattle.tree.specs.declared.operator.UnaryOperator.{UnaryOperator}
 use Rattle.tree.specs.declared.operator.UnaryOperator.TheVariants.{Address}
 use Rattle.tree.specs.Syntax.{Identifier, TypeName, Expression, expression_node, name_expression, composite_literal, parenthesized, selector_expression, index_expression, instance_expression, call_expression, star_expression, unary_expression, binary_expression, array_type, ExpressionForm, Parameters, no_parameter, named_and, unnamed_and, name_alone_and, Expressions, no_expression, expression_and, OptionalExpression, missing_expression, present_expression, OptionalStatement, missing_statement, present_statement, statement_node, send_statement, define_statement, if_statement, Statements, statement_and}
 use Rattle.meaning.specs.Scopes.{is_blank, first_of, bare_names, named_in_type}
-use Rattle.meaning.specs.Mentions.{Named, as_bare, as_named, without_brackets, as_bracketed, as_pointer, as_new_literal, select_from, embedded, Standing, ordinary, first_of_for, communication, Row, CallPlace, nowhere, as_statement, only_value, return_item, deferred, under_go, place_in, Call, call_of, is_one, is_none_left, LiteralUse, other_use, deferred_call, started_by, Role, elsewhere, as_key, exposed, pointed_to, found_nil, found_error, called_in_brackets, argument, left, new_literal, parameter_pointer, BodyPlace, FieldLeft, Assigned, Taker, no_taker, called_function, appending, method, some_taker, writes_field, Mark, of_fields, defers_literal, opens, closes, in_body, Spot, part_of, whole, field_left, written, field_written, field_called, given_to, literal_given_to, receiver_given, all_given_to, appended, right_given, rights_given, sent, renewed, communication_given, guard_renewed, callee_spot, argument_spot, argument_taker, mention, name_role, named_or, bare_within, addressed_within, exposed_or, NilTest, nil_test, nil_where, nil_marks, has_both, compares, error_where, error_marks, guard_marks, behind_row, callee_or, declaring, number_of, addressed, argument_or, argument_at, new_literal_or, deferral, parameter_type_or, left_names, declared_elsewhere, guard_in_clause, expression_marks, form_marks, expressions_marks, arguments_marks, items_marks, lefts_marks, ranged_marks, statement_marks, statement_form_marks, statements_marks, optional_statement_marks}
+use Rattle.meaning.specs.Mentions.{Named, as_bare, as_named, without_brackets, as_bracketed, as_pointer, as_new_literal, select_from, embedded, Standing, ordinary, first_of_for, communication, Row, CallPlace, nowhere, as_statement, only_value, return_item, deferred, under_go, place_in, Call, call_of, is_one, is_none_left, LiteralUse, other_use, deferred_call, call_under_go, started_by, Role, elsewhere, as_key, exposed, pointed_to, found_nil, found_error, called_in_brackets, argument, left, new_literal, parameter_pointer, BodyPlace, FieldLeft, Assigned, Taker, no_taker, called_function, appending, method, some_taker, writes_field, at_return, in_goroutine, Mark, of_fields, runs_literal, opens, closes, in_body, Spot, part_of, whole, field_left, written, field_written, field_called, given_to, literal_given_to, receiver_given, all_given_to, appended, right_given, rights_given, sent, renewed, communication_given, guard_renewed, callee_spot, argument_spot, argument_taker, mention, name_role, named_or, bare_within, addressed_within, exposed_or, NilTest, nil_test, nil_where, nil_marks, has_both, compares, error_where, error_marks, guard_marks, behind_row, callee_or, declaring, number_of, addressed, argument_or, argument_at, new_literal_or, deferral, parameter_type_or, left_names, declared_elsewhere, guard_in_clause, expression_marks, form_marks, expressions_marks, arguments_marks, items_marks, lefts_marks, ranged_marks, statement_marks, statement_form_marks, statements_marks, optional_statement_marks}
 use Rattle.meaning.specs.Cursor.{read_in, Rule, ◌⨾◌, identifier}
 use Rattle.meaning.specs.OperatorTokens.{assign_operator}
 use Rattle.meaning.specs.Grammar.{Position, as_type, as_expression, as_value, as_element, as_constraint, parameters_stand, length_stands, no_type_parameters, type_parameters, after_type_name, end_of_selector, end_of_name, after_instance, end_of_type, channel, arguments, perhaps, elements, third_bound, guard_name, initial, range_left, case_head, communication_head, optional_tag, before_item, after_items, qualifier, type_name, SpellsExpression, SpellsExpressions, SpellsMore}
@@ -477,7 +477,8 @@ module _ {source : Lexed} where
 
   pub deferral_has : (used : LiteralUse) (site at : ℕ) → AllHaveWords source (deferral used site at)
   deferral_has other_use site at = none_left
-  deferral_has deferred_call site at = one_has (defers_literal site at) tt
+  deferral_has deferred_call site at = one_has (runs_literal at_return site at) tt
+  deferral_has call_under_go site at = one_has (runs_literal in_goroutine site at) tt
   deferral_has (started_by x) site at = none_left
 
   pub body_has : (b : BodyPlace) {ms : List Mark} → HasWords source (opens b) → AllHaveWords source ms → AllHaveWords source (in_body b ms)

@@ -11,7 +11,7 @@ use Rattle.lexer.specs.declared.token.TokenKind.TheVariants.{Identifier as ident
 use Rattle.lexer.specs.Tokens.{IsTokens}
 use Rattle.tree.specs.declared.edition.Edition.{Edition}
 use Rattle.tree.specs.Syntax.{OptionalExpression, missing_expression, present_expression, Parameters, no_parameter, named_and, unnamed_and, name_alone_and, Signature, signature_of, SourceFile}
-use Rattle.meaning.specs.Mentions.{Named, as_named, RowForm, defines, assigns, declares, Row, CallPlace, nowhere, as_statement, only_value, return_item, deferred, under_go, Call, Role, elsewhere, as_key, exposed, pointed_to, found_nil, found_error, called, called_in_brackets, argument, returned, left, names_type, new_literal, parameter_pointer, FieldMark, writes_field, Mark, mentions, of_fields, defers_literal, returns, opens, closes, file_marks}
+use Rattle.meaning.specs.Mentions.{Named, as_named, RowForm, defines, assigns, declares, Row, CallPlace, nowhere, as_statement, only_value, return_item, deferred, under_go, Call, Role, elsewhere, as_key, exposed, pointed_to, found_nil, found_error, called, called_in_brackets, argument, returned, left, names_type, new_literal, parameter_pointer, FieldMark, writes_field, Mark, mentions, of_fields, runs_literal, returns, opens, closes, file_marks}
 use Rattle.meaning.specs.Tracked.{only_call}
 use Rattle.meaning.specs.TreeOfText.{IsTreeOf}
 
@@ -131,7 +131,7 @@ SignatureHasWords source (signature_of ps rs brackets) = ParametersHaveWords sou
 abbrev pub HasWords : Lexed → Mark → Type 0
 HasWords source (mentions m) = AreWords source m.named × RoleHasWords source m.role
 HasWords source (of_fields site m) = FieldHasWords source m
-HasWords source (defers_literal site at) = Unit {0}
+HasWords source (runs_literal moment site at) = Unit {0}
 HasWords source (returns at es) = Unit {0}
 HasWords source (opens b) = ReceiverHasWords source b.receiver × SignatureHasWords source b.signature
 HasWords source closes = Unit {0}

@@ -10,7 +10,7 @@ use Rattle.std.specs.Str.{bytes_eq}
 use Rattle.meaning.specs.OuterBlocks.{is_first_path}
 use Rattle.meaning.specs.Declarations.{import_name}
 use Rattle.tree.specs.Syntax.{OptionalExpression, missing_expression, present_expression, Signature, signature_of}
-use Rattle.meaning.specs.Mentions.{Named, as_named, RowForm, defines, assigns, declares, Row, Call, Role, left, FieldMark, writes_field, Mark, mentions, of_fields, defers_literal, returns, opens, closes}
+use Rattle.meaning.specs.Mentions.{Named, as_named, RowForm, defines, assigns, declares, Row, Call, Role, left, FieldMark, writes_field, Mark, mentions, of_fields, runs_literal, returns, opens, closes}
 use Rattle.meaning.specs.FunctionFacts.{context_path, errgroup_path, is_of, Item, items_of}
 use Rattle.meaning.specs.Tracked.{Known, facts_of, facts_giving, is_maker, only_call, receiver_items}
 use Rattle.meaning.specs.Uses.{Callee, Seen}
@@ -75,7 +75,7 @@ field_tells known m = false
 abbrev pub mark_tells : Known → Mark → Bool
 mark_tells known (mentions m) = tells known m.named || role_tells known m.role
 mark_tells known (of_fields site m) = field_tells known m
-mark_tells known (defers_literal site at) = false
+mark_tells known (runs_literal moment site at) = false
 mark_tells known (returns at es) = false
 mark_tells known (opens b) = items_tell known (receiver_items b.receiver) || signature_tells known b.signature
 mark_tells known closes = false
@@ -83,7 +83,7 @@ mark_tells known closes = false
 abbrev pub names_recover : Mark → Bool
 names_recover (mentions m) = bytes_eq m.named.name (codes "recover")
 names_recover (of_fields site m) = false
-names_recover (defers_literal site at) = false
+names_recover (runs_literal moment site at) = false
 names_recover (returns at es) = false
 names_recover (opens b) = false
 names_recover closes = false

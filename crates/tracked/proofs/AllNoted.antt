@@ -3,7 +3,7 @@ use Rattle.std.proofs.Common.{◌≡◌, ℕ, Bool, true, false, ◌&&◌, ◌||
 use Rattle.std.specs.Prelude.{◌==◌, not}
 use Rattle.std.specs.List.{list_any}
 use Rattle.std.proofs.lemmas.Bool.Decides.{Decides-eqb}
-use Rattle.meaning.specs.Mentions.{BodyPlace, Mark, mentions, of_fields, defers_literal, returns, opens, closes}
+use Rattle.meaning.specs.Mentions.{BodyPlace, Mark, mentions, of_fields, runs_literal, returns, opens, closes}
 use Rattle.meaning.specs.Tracked.{Known, Placed, Local, locals_of, find_local, variable_of, is_variable, obtains_in, makes_in}
 use Rattle.meaning.specs.Objects.{ObjectRow, object_rows, field_locals}
 use Rattle.meaning.specs.Uses.{Seen, is_own, is_of_local, mentions_inside}
@@ -63,7 +63,7 @@ module _ (known : Known) where
       (b && not (is_own e.local bodies)))
       (same_variable (variable_of known m) e.local)
   noted-flags bodies (of_fields site m) e = with_none e
-  noted-flags bodies (defers_literal site at) e = with_none e
+  noted-flags bodies (runs_literal moment site at) e = with_none e
   noted-flags bodies (returns at es) e = with_none e
   noted-flags bodies (opens b) e = with_none e
   noted-flags bodies closes e = with_none e

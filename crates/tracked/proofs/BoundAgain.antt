@@ -6,7 +6,7 @@ use Rattle.std.proofs.lemmas.List.{at_drop_all}
 use Rattle.tree.proofs.Depths.{drop_item}
 use Rattle.mentions.specs.declared.mark.Mark.{Mark as KeptMark}
 use Rattle.mentions.specs.MarkViews.{mark_view, marks_view}
-use Rattle.meaning.specs.Mentions.{BodyPlace, Mention, Mark, mentions, of_fields, defers_literal, returns, opens, closes}
+use Rattle.meaning.specs.Mentions.{BodyPlace, Mention, Mark, mentions, of_fields, runs_literal, returns, opens, closes}
 use Rattle.meaning.specs.Tracked.{Known, Placed, placed, outer, variable_of, declared_by, is_variable, Local, locals_of, find_local}
 use Rattle.meaning.specs.Objects.{is_binding, binds_again, is_bound_again}
 use Rattle.tracked.specs.declared.table.Locals.{Locals}
@@ -66,7 +66,7 @@ module _ (known : Known) (n : ℕ) where
   any_placed bs [] = refl
   any_placed bs (mentions m ∷ ms) = ap (λ b. binds_again known n (mentions m) || b) (any_placed bs ms)
   any_placed bs (of_fields site m ∷ ms) = any_placed bs ms
-  any_placed bs (defers_literal site at ∷ ms) = any_placed bs ms
+  any_placed bs (runs_literal moment site at ∷ ms) = any_placed bs ms
   any_placed bs (returns at es ∷ ms) = any_placed bs ms
   any_placed bs (opens b ∷ ms) = any_placed (b ∷ bs) ms
   any_placed bs (closes ∷ ms) = any_placed (outer bs) ms

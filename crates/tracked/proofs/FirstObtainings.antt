@@ -5,7 +5,7 @@ use Rattle.std.proofs.lemmas.List.{at_drop_all}
 use Rattle.tree.proofs.Depths.{drop_item}
 use Rattle.mentions.specs.declared.mark.Mark.{Mark as KeptMark}
 use Rattle.mentions.specs.MarkViews.{mark_view, marks_view}
-use Rattle.meaning.specs.Mentions.{BodyPlace, Mark, mentions, of_fields, defers_literal, returns, opens, closes}
+use Rattle.meaning.specs.Mentions.{BodyPlace, Mark, mentions, of_fields, runs_literal, returns, opens, closes}
 use Rattle.meaning.specs.Tracked.{placed, outer}
 use Rattle.meaning.specs.Uses.{Seen, Obtaining, first_of_both, first_of_some, obtained_there, first_obtaining}
 use Rattle.tracked.specs.declared.obtainings.Obtainings.{Obtainings}
@@ -71,7 +71,7 @@ module _ (seen : Seen) (n : ℕ) where
   first_placed bs [] = refl
   first_placed bs (mentions m ∷ ms) = ap (first_of_some (obtained_there seen n (mentions m))) (first_placed bs ms)
   first_placed bs (of_fields site m ∷ ms) = first_placed bs ms
-  first_placed bs (defers_literal site at ∷ ms) = first_placed bs ms
+  first_placed bs (runs_literal moment site at ∷ ms) = first_placed bs ms
   first_placed bs (returns at es ∷ ms) = first_placed bs ms
   first_placed bs (opens b ∷ ms) = first_placed (b ∷ bs) ms
   first_placed bs (closes ∷ ms) = first_placed (outer bs) ms

@@ -5,7 +5,7 @@ use Rattle.tree.proofs.Depths.{drop_item}
 use Rattle.mentions.specs.declared.mark.BodyPlace.{BodyPlace as KeptBody}
 use Rattle.mentions.specs.declared.mark.Mark.{Mark as KeptMark}
 use Rattle.mentions.specs.MarkViews.{body_view, mark_view, marks_view}
-use Rattle.meaning.specs.Mentions.{BodyPlace, Mark, mentions, of_fields, defers_literal, returns, opens, closes}
+use Rattle.meaning.specs.Mentions.{BodyPlace, Mark, mentions, of_fields, runs_literal, returns, opens, closes}
 use Rattle.meaning.specs.Tracked.{Known, Local, placed, locals_of, locals_there}
 use Rattle.tracked.specs.declared.table.Entries.{Entries}
 use Rattle.tracked.specs.declared.table.Locals.{Locals}
@@ -21,7 +21,7 @@ module _ (known : Known) (bs : List BodyPlace) where
   unfolding placed locals_of
   locals_of-mark (mentions m) ms = refl
   locals_of-mark (of_fields site m) ms = refl
-  locals_of-mark (defers_literal site at) ms = refl
+  locals_of-mark (runs_literal moment site at) ms = refl
   locals_of-mark (returns at es) ms = refl
   locals_of-mark (opens b) ms = refl
   locals_of-mark closes ms = refl
@@ -32,7 +32,7 @@ module _ (known : Known) (bs : List BodyPlace) where
   unfolding placed
   noted_all-mark n (mentions m) ms e = refl
   noted_all-mark n (of_fields site m) ms e = refl
-  noted_all-mark n (defers_literal site at) ms e = refl
+  noted_all-mark n (runs_literal moment site at) ms e = refl
   noted_all-mark n (returns at es) ms e = refl
   noted_all-mark n (opens b) ms e = refl
   noted_all-mark n closes ms e = refl

@@ -21,7 +21,7 @@ use Rattle.mentions.specs.MarkViews.{marks_view}
 use Rattle.tracked_rows.specs.RowViews.{known_view}
 use Rattle.tree.specs.View.{identifier_syntax}
 use Rattle.meaning.specs.OuterBlocks.{or_else}
-use Rattle.meaning.specs.Mentions.{BodyPlace, Mention, Mark, mentions, of_fields, defers_literal, returns, opens, closes}
+use Rattle.meaning.specs.Mentions.{BodyPlace, Mention, Mark, mentions, of_fields, runs_literal, returns, opens, closes}
 use Rattle.meaning.specs.FunctionFacts.{VariableKind, cancel, group, kind_of_type}
 use Rattle.meaning.specs.Tracked.{Known, some_keep, variable_of, declared_by, outer, Placed, placed, LocalRole, parameter, receiver, variadic, result, in_block, Local, locals_of, find_local, is_variable, obtains_in, makes_in}
 use Rattle.meaning.specs.Objects.{is_binding, is_bound_again, ObjectKind, new_object, outer_object, ObjectRow, object_rows, is_same_field, object_left, field_locals}
@@ -34,7 +34,7 @@ use Rattle.meaning.specs.BodyEvents.{distinct}
 abbrev pub bodies_at : List BodyPlace → Mark → List BodyPlace
 bodies_at bs (mentions m) = bs
 bodies_at bs (of_fields site m) = bs
-bodies_at bs (defers_literal site at) = bs
+bodies_at bs (runs_literal moment site at) = bs
 bodies_at bs (returns at es) = bs
 bodies_at bs (opens b) = b ∷ bs
 bodies_at bs closes = outer bs
@@ -124,7 +124,7 @@ noted_mention known n bodies m e = record {
 abbrev pub noted : Known → ℕ → List BodyPlace → Mark → SeenLocal → SeenLocal
 noted known n bodies (mentions m) e = noted_mention known n bodies m e
 noted known n bodies (of_fields site m) e = e
-noted known n bodies (defers_literal site at) e = e
+noted known n bodies (runs_literal moment site at) e = e
 noted known n bodies (returns at es) e = e
 noted known n bodies (opens b) e = e
 noted known n bodies closes e = e

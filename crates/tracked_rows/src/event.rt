@@ -28,6 +28,13 @@ pub struct Handed {
     pub object: Option<u32>,
 }
 
+/// A variable that a function under `go` gets, and the position of the argument.
+#[derive(Clone, Copy)]
+pub struct Sent {
+    pub number: u32,
+    pub position: usize,
+}
+
 /// A variable, with the offset of its name where it is bound or passed: there a fault of a path stands.
 #[derive(Clone, Copy)]
 pub struct VariableAt {
@@ -35,7 +42,7 @@ pub struct VariableAt {
     pub at: u32,
 }
 
-/// What a mention, a return or a deferred literal does. Variables are named by their numbers.
+/// What a mention, a return or a literal under `defer` or `go` does. Variables are named by their numbers.
 #[derive(Drop)]
 pub enum Event<'a> {
     /// The variable obtains the result of that number of the function, and whether it is declared there.
@@ -128,6 +135,19 @@ pub enum Event<'a> {
     },
     /// The literal at the offset is called under `defer`.
     DeferLiteral {
+        literal: u32,
+    },
+    /// What the variable holds is called under `go`.
+    GoCall {
+        variable: u32,
+    },
+    /// The function is called under `go`, with these variables.
+    GoPass {
+        callee: Callee<'a>,
+        sent: Vec<Sent>,
+    },
+    /// The literal at the offset is called under `go`.
+    GoLiteral {
         literal: u32,
     },
     Return {

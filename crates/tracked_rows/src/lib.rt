@@ -13,7 +13,7 @@ pub mod makings;
 mod universe;
 
 pub use calls::{Giving, called_in, giving_of, is_maker, only, only_call, row_giving};
-pub use event::{Callee, Event, Handed, VariableAt, callee_of, last_name};
+pub use event::{Callee, Event, Handed, Sent, VariableAt, callee_of, last_name};
 pub use fields::{Fields, ObjectLeft, PlacedLeft, has_field, may_be_field, some_keep};
 pub use known::{Known, facts_of, is_named, is_of_universe, local_meant, meaning, object_left};
 pub use lefts::{

@@ -7,7 +7,7 @@ use Rattle.tree.specs.declared.expression.Param.{Param}
 use Rattle.tree.specs.declared.expression.Param.TheVariants.{Named', Unnamed', NameAlone}
 use Rattle.tree.specs.Syntax.{Parameters, no_parameter}
 use Rattle.tree.specs.View.{parameter_and}
-use Rattle.meaning.specs.Mentions.{BodyPlace, Mark, mentions, of_fields, defers_literal, returns, opens, closes}
+use Rattle.meaning.specs.Mentions.{BodyPlace, Mark, mentions, of_fields, runs_literal, returns, opens, closes}
 use Rattle.meaning.specs.OuterBlocks.{or_else}
 use Rattle.meaning.specs.Scopes.{parameters_named}
 use Rattle.meaning.specs.Tracked.{placed}
@@ -42,7 +42,7 @@ module _ (f : List BodyPlace → Mark → Option UseReason) (none : (bs : List B
   unfolding placed
   split bs (mentions m) ms = refl
   split bs (of_fields site m) ms = refl
-  split bs (defers_literal site at) ms = refl
+  split bs (runs_literal moment site at) ms = refl
   split bs (returns at es) ms = refl
   split bs (opens b) ms = refl
   split bs closes ms =

@@ -95,7 +95,7 @@ fn add_mark<'a>(
         Mark::Mentions(mention) => add_mention(known, bodies, mention, told),
         Mark::Opens(body) => add_results(&body.signature.results, &mut told.pointers),
         Mark::OfFields(_, _) => Ok(()),
-        Mark::DefersLiteral(_, _) => Ok(()),
+        Mark::RunsLiteral(_, _, _) => Ok(()),
         Mark::Returns(_, _) => Ok(()),
         Mark::Closes => Ok(()),
     }

@@ -4,3 +4,4 @@ pub mod LeftSides
 pub mod NamedResults
 pub mod OutcomesOfEntries
 pub mod TrackedOutside
+pub mod SentParts

@@ -6,7 +6,7 @@ use Rattle.tree.proofs.Depths.{drop_item}
 use Rattle.mentions.specs.declared.mark.BodyPlace.{BodyPlace as KeptBody}
 use Rattle.mentions.specs.declared.mark.Mark.{Mark as KeptMark}
 use Rattle.mentions.specs.MarkViews.{body_view, mark_view, marks_view}
-use Rattle.meaning.specs.Mentions.{BodyPlace, Mark, mentions, of_fields, defers_literal, returns, opens, closes}
+use Rattle.meaning.specs.Mentions.{BodyPlace, Mark, mentions, of_fields, runs_literal, returns, opens, closes}
 use Rattle.meaning.specs.Tracked.{placed}
 use Rattle.meaning.specs.Uses.{Seen, is_outside, names_tracked, names_tracked_outside}
 use Rattle.tracked.specs.LocalViews.{bodies_at}
@@ -23,7 +23,7 @@ module _ (s : Seen) where
   unfolding placed
   any-mark bs (mentions m) ms = refl
   any-mark bs (of_fields site m) ms = refl
-  any-mark bs (defers_literal site at) ms = refl
+  any-mark bs (runs_literal moment site at) ms = refl
   any-mark bs (returns at es) ms = refl
   any-mark bs (opens b) ms = refl
   any-mark bs closes ms = ends_nothing (is_outside (bodies_at bs closes)) _

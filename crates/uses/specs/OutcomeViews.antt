@@ -11,10 +11,11 @@ use Rattle.tracked_rows.specs.EventViews.{events_view}
 use Rattle.tracked.specs.LocalViews.{SeenLocal, kind_of_entry, tracked_kind_of_entry}
 use Rattle.tracked_rows.specs.RowViews.{state_view}
 use Rattle.meaning.specs.FunctionFacts.{is_same_type, VariableKind}
-use Rattle.meaning.specs.Mentions.{Standing, ordinary, first_of_for, communication, Row, BodyPlace, Role, left, Mention, FieldLeft, Assigned, Mark, mentions, of_fields, defers_literal, returns, opens, closes}
+use Rattle.meaning.specs.Mentions.{Standing, ordinary, first_of_for, communication, Row, BodyPlace, Role, left, Mention, FieldLeft, Assigned, Mark, mentions, of_fields, runs_literal, returns, opens, closes}
 use Rattle.tree.specs.Syntax.{Identifier}
 use Rattle.meaning.specs.Tracked.{Known, is_universe, declared_by, row_giving, body_locals, Local, LocalRole, parameter, receiver, variadic, result, in_block}
-use Rattle.meaning.specs.Uses.{Seen, Binding, obtained, cleared, made, Event, UseCode, recover_used, goto_used, cancel_discarded, cancel_used_otherwise, group_used_otherwise, bound_again, too_many_variables, UseFault, fault_at, otherwise, defer_literal, Outcome, nothing, only_faults, binding_event, error_events, first_faults, type_faults, event_here, use_outcome, kind_use, binding_at, variable_outcome, mention_faults, result_faults, if_not, cancel_type_of, type_from, field_left_faults, field_variable, field_faults}
+use Rattle.meaning.specs.BodyEvents.{is_in_block, literal_events, sent_events}
+use Rattle.meaning.specs.Uses.{Seen, Binding, obtained, cleared, made, Event, UseCode, recover_used, goto_used, cancel_discarded, cancel_used_otherwise, group_used_otherwise, bound_again, too_many_variables, UseFault, fault_at, otherwise, Outcome, nothing, only_faults, binding_event, error_events, first_faults, type_faults, event_here, use_outcome, kind_use, binding_at, variable_outcome, mention_faults, result_faults, if_not, cancel_type_of, type_from, field_left_faults, field_variable, field_faults}
 
 abbrev pub code_view : KeptCode → UseCode
 code_view RecoverUsed = recover_used
@@ -103,7 +104,7 @@ written_faults seen l a = field_left_faults seen (field_variable seen l.field) l
 abbrev pub plain_faults : Seen → List BodyPlace → Mark → List UseFault
 plain_faults seen bodies (mentions m) = mention_faults seen bodies m
 plain_faults seen bodies (of_fields site m) = field_faults seen m
-plain_faults seen bodies (defers_literal site at) = []
+plain_faults seen bodies (runs_literal moment site at) = []
 plain_faults seen bodies (returns at es) = []
 plain_faults seen bodies (opens b) = result_faults (body_locals seen.known b)
 plain_faults seen bodies closes = []
@@ -114,7 +115,7 @@ plain_faults seen bodies closes = []
 abbrev pub plain_events : Seen → List BodyPlace → Mark → List Event
 plain_events seen bodies (mentions m) = (variable_outcome seen bodies m).events
 plain_events seen bodies (of_fields site m) = []
-plain_events seen bodies (defers_literal site at) = defer_literal at ∷ []
+plain_events seen bodies (runs_literal moment site at) = literal_events seen.known.edition moment at
 plain_events seen bodies (returns at es) = []
 plain_events seen bodies (opens b) = []
 plain_events seen bodies closes = []
@@ -123,10 +124,19 @@ plain_events seen bodies closes = []
 abbrev pub error_calls : Seen → Mark → List Event
 error_calls seen (mentions m) = error_events seen m m.role
 error_calls seen (of_fields site m) = []
-error_calls seen (defers_literal site at) = []
+error_calls seen (runs_literal moment site at) = []
 error_calls seen (returns at es) = []
 error_calls seen (opens b) = []
 error_calls seen closes = []
+
+-- what functions under `go` get
+abbrev pub sent_part : Seen → List BodyPlace → Mark → List Event
+sent_part seen bodies (mentions m) = sent_events seen.known.edition seen bodies m
+sent_part seen bodies (of_fields site m) = []
+sent_part seen bodies (runs_literal moment site at) = []
+sent_part seen bodies (returns at es) = []
+sent_part seen bodies (opens b) = []
+sent_part seen bodies closes = []
 
 abbrev pub listed_number : Option ℕ → List ℕ
 listed_number None = []

@@ -13,6 +13,7 @@ mod losses;
 mod mark;
 mod outcomes;
 mod recover;
+mod sent;
 mod tracked_names;
 mod variables;
 
@@ -21,3 +22,4 @@ pub use faults::{UseCode, UseFault, add_fault};
 pub use losses::lost_at;
 pub use mark::mark_outcome;
 pub use recover::is_recover;
+pub use sent::sent_at;

@@ -5,7 +5,9 @@ ghost use Rattle.facts.specs.FactViews.{item_view};
 ghost use Rattle.tracked.specs.LocalViews.{seen_view, Sees};
 ghost use Rattle.meaning.specs.Tracked.{result_locals, body_locals};
 ghost use Rattle.meaning.specs.Uses.{field_faults, mention_faults, only_faults, variable_outcome, result_faults};
-ghost use Rattle.mentions.specs.MarkViews.{body_view, field_mark_view, mention_view, mark_view};
+ghost use Rattle.meaning.specs.BodyEvents.{literal_events};
+ghost use Rattle.mentions.specs.MarkViews.{body_view, field_mark_view, mention_view, moment_view, mark_view};
+ghost use Rattle.tracked_rows.specs.EventViews.{events_view};
 ghost use Rattle.tracked_rows.specs.RowViews.{known_view};
 ghost use Rattle.uses.specs.OutcomeViews.{AddsFaults, Gives, plain_events, plain_faults};
 
@@ -16,11 +18,11 @@ use crate::givings::add_giving;
 use crate::group_names::add_errgroup;
 use crate::outcomes::variable_outcome;
 use facts::{Item, TrackedType, item_type, parameter_items};
-use mentions::{BodyPlace, FieldMark, Mark, Mention};
+use mentions::{BodyPlace, FieldMark, Mark, Mention, Moment};
 use std::alloc::{AllocError, Global};
 use tracked::Seen;
 use tracked_rows::{Event, Known};
-use tree::BLANK;
+use tree::{BLANK, Edition};
 
 /// What a mention gives: faults, but for that of `recover`, and at most one event.
 fn mention_outcome<'a>(
@@ -146,9 +148,22 @@ fn body_outcome<'a>(
     Ok(None)
 }
 
+/// What a literal does that a statement calls: in the first edition one under `go` sees to nothing.
+fn literal_event<'a>(edition: Edition, moment: Moment, literal: u32) -> Option<Event<'a>>
+    ensures { events_view result ≡ literal_events edition (moment_view moment) literal }
+{
+    match moment {
+        Moment::AtReturn => Some(Event::DeferLiteral { literal }),
+        Moment::InGoroutine => match edition {
+            Edition::First => None,
+            Edition::Second => Some(Event::GoLiteral { literal }),
+        },
+    }
+}
+
 /// What a mark in these bodies gives: faults, which are added, and at most one event. Those of `recover` and `goto` are
-/// not among them, since they go by the variables of bodies. Neither are the calls of `lost_at`, what is done to
-/// objects, and returns, which go by what is kept in fields.
+/// not among them, since they go by the variables of bodies. Neither are the calls of `lost_at`, what
+/// functions under `go` get, what is done to objects, and returns, which go by what is kept in fields.
 ///
 /// # Errors
 ///
@@ -169,7 +184,7 @@ pub fn mark_outcome<'m, 'a>(
     match mark {
         Mark::Mentions(mention) => outcome_there(alloc, seen, bodies, mention, faults),
         Mark::OfFields(_, mark) => field_outcome(seen, **mark, faults),
-        Mark::DefersLiteral(_, at) => Ok(Some(Event::DeferLiteral { literal: *at })),
+        Mark::RunsLiteral(moment, _, at) => Ok(literal_event(seen.known.edition, *moment, *at)),
         Mark::Returns(_, _) => Ok(None),
         Mark::Opens(body) => body_outcome(alloc, seen.known, **body, faults),
         Mark::Closes => Ok(None),

@@ -42,7 +42,7 @@ fn group_called<'a>(
         return Ok(group_tried(seen.known, here, call, is_free));
     }
     if method == "Wait" {
-        return Ok(group_awaited(here, call));
+        return Ok(group_awaited(seen.known.edition, here, call));
     }
     if method == "SetLimit" {
         return Ok(group_limited(here, call));

@@ -4,6 +4,7 @@
 use Rattle.std.proofs.Common.{◌≡◌, ℕ, Bool, true, List, [], Some, Contains, refl, ap, ◌∙◌}
 use Rattle.std.specs.Prelude.{slice_get}
 use Rattle.calls_flags.proofs.ClaimsOf.{so_function}
+use Rattle.calls_flags.proofs.ComesBack.{by_code_alone}
 use Rattle.calls_flags.specs.Claims.{function_name}
 use Rattle.checker.specs.Certificates.{is_claimed}
 use Rattle.checker.specs.CheckerLaws.{IsOf, LeavesNoFault, KeepsClaims}
@@ -19,7 +20,7 @@ use Rattle.meaning_reports.specs.PackageReports.{IsFileFinding, outside_bodies, 
 use Rattle.path_faults.proofs.Places.{place_of}
 use Rattle.report.specs.Entries.{Entry}
 use Rattle.verifier.specs.Verified as verified
-use Rattle.verifier.specs.Verified.{Given, flags_of_name, flags_of_body, checked, IsCertified, IsClaimed}
+use Rattle.verifier.specs.Verified.{Given, nothing_known, flags_of_name, flags_of_body, checked, IsCertified, IsClaimed}
 use Rattle.verifier.specs.VerifierLaws.{BodiesHaveOwnPlaces, SaysNothing, ClaimsAreConsistent, NothingIsFound}
 
 -- the body that is checked is that of the paths
@@ -103,6 +104,8 @@ module _ (keeps : KeepsClaims) (given : Given) (files : List FileWithCredits) (i
         variable = h.variable;
         is_of_package = h.is_of_package;
         is_claim = h.is_claim;
+        comes_back = by_code_alone h.file.seen.known.edition h.file.seen nothing_known
+            (promises_in (calls_by flags imported) h.file.credits h.body.at) h.body h.comes_back;
         keeps =
             keeps_claim given flags (calls_by flags imported) file.0 h.file (places h.file h.is_of_package)
             (nothing file.0 h.file file.1) keeps h.body h.is_claim.is_body h.is_claim.is_followed variable.0 h.variable

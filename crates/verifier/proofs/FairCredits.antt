@@ -1,9 +1,11 @@
 -- Credits by certificates hold under themselves, whatever is known of functions: the classes of a variable that a
 -- literal captures do not depend on that, since no event of the literal passes it on.
-use Rattle.std.proofs.Common.{◌≡◌, ℕ, Bool, true, false, List, [], ◌∷◌, ◌++◌, Some, Contains, refl, sym, ap, ◌∙◌, subst}
-use Rattle.std.specs.Prelude.{◌==◌, ◌&&◌, not, if◌then◌else◌}
+use Rattle.std.proofs.Common.{◌≡◌, ℕ, Bool, true, false, inl, inr, List, [], ◌∷◌, ◌++◌, Some, Contains, refl, sym, ap, ◌∙◌, subst}
+use Rattle.std.specs.Prelude.{◌==◌, ◌&&◌, ◌||◌, not, if◌then◌else◌}
+use Rattle.std.specs.List.{list_any}
 use Rattle.std.proofs.lemmas.Bool.Decides.{Decides-eqb}
 use Rattle.std.proofs.lemmas.List.Elements.{Contains-append_left}
+use Rattle.calls_flags.proofs.ComesBack.{back_alone}
 use Rattle.checker.specs.CheckerLaws.{SettlesWhatItSays}
 use Rattle.meaning.proofs.Membership.{contains_here, contains_there}
 use Rattle.meaning.specs.BodyEvents.{Variable, captured, bodies_of, sites_of, variables_of}
@@ -12,19 +14,18 @@ use Rattle.meaning.specs.Code.{Occurrence}
 use Rattle.meaning.specs.FunctionFacts.{VariableKind, cancel, group}
 use Rattle.meaning.specs.Lists.{stopped, Reaches}
 use Rattle.meaning.specs.Mentions.{BodyPlace}
-use Rattle.meaning.specs.Uses.{Callee, Seen, Event, other, obtain, obtain_kept, renew, keep, call_kept, defer_kept, give, give_field, clear, call, defer_call, pass, defer_pass, lend, start, try, wait, defer_wait, make, defer_literal, return_event}
+use Rattle.meaning.specs.Uses.{Callee, Seen, Sent, go_call, go_pass, go_literal, goes_off, Event, other, obtain, obtain_kept, renew, keep, call_kept, defer_kept, give, give_field, clear, call, defer_call, pass, defer_pass, lend, start, try, wait, defer_wait, make, defer_literal, go, return_event}
 use Rattle.meaning_packages.specs.CallsFlags.{Flags, FileWithCredits}
 use Rattle.meaning_packages.specs.Credits.{Credits, body_at, begun_after, promises_in, no_calls, is_safe, is_live, is_settled, Settles, IsCredited}
 use Rattle.meaning_packages.specs.PathFaults.{paths_of}
 use Rattle.meaning_runs.proofs.EventSources.{list_has, of_body, marked}
-use Rattle.meaning_runs.proofs.MentionEvents.{passes}
 use Rattle.meaning_runs.specs.Bodies.{Body, code_of}
 use Rattle.meaning_runs.specs.EventSources.{HasSource, says_nothing, falls_off, of_mark}
 use Rattle.path_faults.proofs.Places.{contains_at}
 use Rattle.verifier.proofs.CertifiedBodies.{is_of}
 use Rattle.verifier.proofs.OneVerified.{at_its_offset}
-use Rattle.verifier.proofs.OwnPasses.{captured_is_not_passed}
-use Rattle.verifier.specs.Verified.{Given, flags_of_body, checked, IsCreditedBy}
+use Rattle.verifier.proofs.OwnPasses.{HandsOn, captured_is_not_passed}
+use Rattle.verifier.specs.Verified.{Given, nothing_known, flags_of_body, checked, IsCreditedBy}
 use Rattle.verifier.specs.VerifierLaws.{CreditsAreFair}
 
 -- Classes by what is known of functions
@@ -39,7 +40,26 @@ module _ (calls others : Callee → ℕ → Bool) (credits : Credits) (v : ℕ) 
       by true same = absurd (apart (same refl))
       by false same = refl
 
-  one_change : (e : Event) → (passes e ≡ Some v → ⊥) → (k : CancelClass)
+  unsent : (f : Callee) (xs : List Sent) → ((x : Sent) → Contains xs x → x.number ≡ v → ⊥) → (k : CancelClass)
+      → (if list_any (λ x. (x.number == v) && calls f x.position) xs then safe else k)
+      ≡ (if list_any (λ x. (x.number == v) && others f x.position) xs then safe else k)
+  unsent f xs none k =
+      ap (λ b. if b then safe else k) (none_of f calls xs none) ∙ sym (ap (λ b. if b then safe else k) (none_of f others xs none))
+    where
+      none_of : (f : Callee) (known : Callee → ℕ → Bool) (xs : List Sent)
+          → ((x : Sent) → Contains xs x → x.number ≡ v → ⊥)
+          → list_any (λ x. (x.number == v) && known f x.position) xs ≡ false
+      none_of f known [] none = refl
+      none_of f known (x ∷ xs) none =
+          by (x.number == v) (Decides-eqb x.number v).0 (none_of f known xs (λ y h. none y (contains_there x y xs h)))
+        where
+          by : (t : Bool) → (t ≡ true → x.number ≡ v)
+              → list_any (λ x. (x.number == v) && known f x.position) xs ≡ false
+              → ((t && known f x.position) || list_any (λ x. (x.number == v) && known f x.position) xs) ≡ false
+          by true same rest = absurd (none x (contains_here x xs) (same refl))
+          by false same rest = rest
+
+  one_change : (e : Event) → (HandsOn e v → ⊥) → (k : CancelClass)
       → change_cancel (record { calls = calls; credits = credits }) v e k
       ≡ change_cancel (record { calls = others; credits = credits }) v e k
   one_change other none k = refl
@@ -54,8 +74,8 @@ module _ (calls others : Callee → ℕ → Bool) (credits : Credits) (v : ℕ) 
   one_change (clear u) none k = refl
   one_change (call u) none k = refl
   one_change (defer_call u) none k = refl
-  one_change (pass u f n) none k = unpassed u.number (calls f n) (others f n) k λ same. none (ap Some same)
-  one_change (defer_pass u f n) none k = unpassed u.number (calls f n) (others f n) k λ same. none (ap Some same)
+  one_change (pass u f n) none k = unpassed u.number (calls f n) (others f n) k λ same. none (inl (ap Some same))
+  one_change (defer_pass u f n) none k = unpassed u.number (calls f n) (others f n) k λ same. none (inl (ap Some same))
   one_change (lend g f n) none k = refl
   one_change (start g literal) none k = refl
   one_change (try g literal) none k = refl
@@ -63,9 +83,14 @@ module _ (calls others : Callee → ℕ → Bool) (credits : Credits) (v : ℕ) 
   one_change (defer_wait g) none k = refl
   one_change (make g state) none k = refl
   one_change (defer_literal literal) none k = refl
+  one_change (go (go_call u)) none k = refl
+  one_change (go (go_pass f xs)) none k =
+      unsent f xs
+      (λ x h same. none (inr record { callee = f; sent = xs; one = x; is_event = refl; is_sent = h; is_it = same })) k
+  one_change (go (go_literal literal)) none k = refl
   one_change (return_event handed) none k = refl
 
-  same_cancel : (t : List (Occurrence Event)) → ((o : Occurrence Event) → Contains t o → passes o.event ≡ Some v → ⊥)
+  same_cancel : (t : List (Occurrence Event)) → ((o : Occurrence Event) → Contains t o → HandsOn o.event v → ⊥)
       → (k : CancelClass)
       → cancel_after (record { calls = calls; credits = credits }) v k t
       ≡ cancel_after (record { calls = others; credits = credits }) v k t
@@ -100,6 +125,9 @@ module _ (calls others : Callee → ℕ → Bool) (credits : Credits) (v : ℕ) 
   group_change (defer_wait g) k = refl
   group_change (make g state) k = refl
   group_change (defer_literal literal) k = refl
+  group_change (go (go_call u)) k = refl
+  group_change (go (go_pass f xs)) k = refl
+  group_change (go (go_literal literal)) k = refl
   group_change (return_event handed) k = refl
 
   same_group : (t : List (Occurrence Event)) (k : GroupClass)
@@ -118,7 +146,7 @@ module _ (seen : Seen) (b : BodyPlace) (v : Variable) (among : Contains (variabl
   here = record { home = 0; file = seen; place = b }
 
   no_pass : (t : List (Occurrence Event)) (o : Occurrence Event) → Reaches (code_of here) t o
-      → (x : Occurrence Event) → Contains t x → passes x.event ≡ Some v.number
+      → (x : Occurrence Event) → Contains t x → HandsOn x.event v.number
       → ⊥
   no_pass t o reached x there =
       captured_is_not_passed here x.event
@@ -155,7 +183,7 @@ module _ (settles : SettlesWhatItSays) (given : Given) (own : Flags) (calls : Ca
   credited literal variable h =
       let b = h.body in
       let paths = paths_of file.seen (promises_in calls file.credits b.at) b in
-      let k = h.settled in
+      let k = h.relied.settles in
       let c = k.certified in
       let same = at_its_offset literal (bodies_of file.seen) b h.is_there in
       let among = contains_at (variables_of file.seen b.at) k.place k.found k.is_of_body in
@@ -169,6 +197,9 @@ module _ (settles : SettlesWhatItSays) (given : Given) (own : Flags) (calls : Ca
         is_of_body = among;
         is_captured = k.is_captured;
         is_it = k.is_it;
+        binds_none = h.relied.binds_none;
+        comes_back = back_alone file.seen.known.edition (goes_off b.literal) file.seen nothing_known
+            (promises_in no_calls file.credits b.at) b h.relied.comes_back;
         settles = settles_too file.seen b k.found among k.is_captured calls file.credits settled;
       })
 

@@ -20,7 +20,7 @@ use Rattle.report.specs.Entries.{Entry}
 use Rattle.report.specs.declared.diagnostics.Diagnostic.{Diagnostic}
 use Rattle.verifier.proofs.OneVerified.{certified_too, credited_too}
 use Rattle.verifier.specs.FoundBodies.{with_table, IsUncertified, IsUncertifiedIn, FindsBody, AreFoundBut}
-use Rattle.verifier.specs.Verified.{Given, SettlesBy, IsCreditedBy, AreGivenCredits}
+use Rattle.verifier.specs.Verified.{Given, IsReliedOnBy, IsCreditedBy, AreGivenCredits}
 
 -- what stands behind a body begins at or behind it
 not_before : (bs : List BodyPlace) → AreInPlace bs → (i : ℕ) (b : BodyPlace) → slice_get bs i ≡ Some b
@@ -92,12 +92,12 @@ module _ (given : Given) (own : Flags) (calls : Callee → ℕ → Bool) (number
         let first_there = is_first seen i b is_there none in (
           λ e.
               credited_too given own calls number seen before after b.at variable same
-              (record { body = b; is_there = first_there; settled = (finds.there variable).0 e }),
+              (record { body = b; is_there = first_there; relied = (finds.there variable).0 e }),
           λ h.
               let k = credited_too given own calls number seen after before b.at variable (sym same) h in
               (finds.there variable).1
-              (subst (λ x. SettlesBy given own calls number (with_table seen before) x variable)
-              (same_Some k.body b (sym k.is_there ∙ first_there)) k.settled),
+              (subst (λ x. IsReliedOnBy given own calls number (with_table seen before) x variable)
+              (same_Some k.body b (sym k.is_there ∙ first_there)) k.relied),
         )
 
     elsewhere : (literal variable : ℕ) → nat_eq b.at literal ≡ false → body_at literal first_ones ≡ None

@@ -1,8 +1,11 @@
 -- What is found of a body's certificate, by way of its graph in memory.
 use Rattle.std.proofs.Common.{◌≡◌, ℕ, ◌+◌, Bool, true, false, List, [], ◌∷◌, length, map, Option, Some, None, refl, sym, ap, ◌∙◌, subst}
-use Rattle.std.specs.Prelude.{◌↔◌, IsTrue}
+use Rattle.std.specs.Prelude.{◌↔◌, IsTrue, is_some}
 use Rattle.std.specs.List.Sorted.{IsPermutation}
+use Rattle.std.proofs.lemmas.Bool.{false≢true}
 use Rattle.std.proofs.lemmas.Option.{same_Some}
+use Rattle.credits.proofs.SettledBodies.{paths_there}
+use Rattle.path_faults.proofs.Places.{contains_at}
 use Rattle.bodies.specs.Bodies.{IsOrderedGraph, code_in, TellsBody}
 use Rattle.bodies.specs.NodeEvents.{node_event_view, changed, events_graph}
 use Rattle.bodies.specs.declared.body.Body.{Body as KeptBody}
@@ -18,7 +21,7 @@ use Rattle.flow.specs.GraphOfCode.{nodes}
 use Rattle.flow.specs.GraphViews.{occurrences_of}
 use Rattle.flow.specs.NodeOrder.{places}
 use Rattle.flow.specs.Walks.{Graph}
-use Rattle.meaning.specs.BodyEvents.{unfollowed_faults}
+use Rattle.meaning.specs.BodyEvents.{unfollowed_faults, variables_of}
 use Rattle.meaning.specs.Code.{Occurrence}
 use Rattle.meaning.specs.Mentions.{BodyPlace}
 use Rattle.meaning.specs.Uses.{Callee, Event, Seen}
@@ -27,7 +30,8 @@ use Rattle.meaning_packages.specs.Credits.{Credits, promises_in}
 use Rattle.meaning_packages.specs.PathFaults.{Paths, paths_of}
 use Rattle.tree.specs.declared.edition.Edition.{Edition}
 use Rattle.verifier.proofs.OneOrder.{one_order}
-use Rattle.verifier.specs.FoundBodies.{with_table, IsFound}
+use Rattle.verifier.specs.FoundBodies.{with_table, IsFound, IsFoundReliedOn}
+use Rattle.verifier.specs.ReliedOn.{AreLeftIf}
 use Rattle.verifier.specs.SettledPlaces.{SettlesSome}
 use Rattle.verifier.specs.Verified.{Given, flags_of_name, flags_of_body, IsOrder, checked, IsCertified, SettlesBy}
 
@@ -153,3 +157,52 @@ module _ (seen : Seen) (b : BodyPlace) (number : ℕ) (told : KeptBody) (tells :
     promises = ap (λ (p : BodyPlace). promises_in calls credits p.at) tells.is_place i;
     is_claimed = ap (flags_of_name own) is_name i;
   }
+
+-- For what it is relied on
+
+module _ (given : Given) (own : Flags) (calls : Callee → ℕ → Bool) (number : ℕ) (seen : Seen) (credits : Credits)
+    (b : BodyPlace) where
+  pub relied_found : (found left : Option (List ℕ)) → IsFound given own calls number (with_table seen credits) b found
+      → AreLeftIf seen b found left
+      → IsFoundReliedOn given own calls number (with_table seen credits) b left
+  relied_found None None none are = none
+  relied_found None (Some left) none are = absurd are
+  relied_found (Some settled) None some are = absurd are
+  relied_found (Some settled) (Some left) some are = (
+    some.0,
+    λ variable. (
+      λ e.
+          let it = (are variable).0 e in
+          record {
+            settles = (some.1 variable).0 it.is_one;
+            binds_none = it.binds_none;
+            comes_back = it.comes_back;
+          },
+      λ h. (are variable).1 record {
+        is_one = (some.1 variable).1 h.settles;
+        binds_none = h.binds_none;
+        comes_back = h.comes_back;
+      },
+    ),
+  )
+
+  -- a body without variables settles none
+  pub none_found : (file : ℕ) (body : KeptBody) → TellsBody file seen b body → body.graph ≡ None
+      → unfollowed_faults seen b ≡ []
+      → (found : Option (List ℕ))
+      → IsFound given own calls number (with_table seen credits) b found
+      → IsFoundReliedOn given own calls number (with_table seen credits) b found
+  none_found file body tells none followed None found = found
+  none_found file body tells none followed (Some settled) found = (
+    found.0,
+    λ variable. (
+      λ e. absurd (settles_none variable ((found.1 variable).0 e)),
+      λ h. absurd (settles_none variable h.settles),
+    ),
+  )
+    where
+      settles_none : (variable : ℕ) → SettlesBy given own calls number (with_table seen credits) b variable → ⊥
+      settles_none variable h =
+          false≢true
+          (ap is_some (sym none) ∙ tells.has_graph
+          ∙ paths_there seen b h.found (contains_at (variables_of seen b.at) h.place h.found h.is_of_body) followed)

@@ -1,10 +1,12 @@
 mod BelievedFlags
 mod CertifiedBodies
+mod ComingBack
 mod FairCredits
 mod FoundBackward
 mod FoundCertificates
 mod FoundPackages
 mod GivenMaps
+mod LeftNumbers
 mod OneOrder
 pub mod OneVerified
 mod OwnPasses

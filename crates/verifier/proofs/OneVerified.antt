@@ -9,7 +9,7 @@ use Rattle.meaning.specs.BodyEvents.{bodies_of}
 use Rattle.meaning.specs.Mentions.{BodyPlace}
 use Rattle.meaning.specs.FunctionFacts.{cancel_type}
 use Rattle.meaning.specs.Uses.{Callee, Seen, facts_take_type}
-use Rattle.meaning_packages.specs.CallsFlags.{Flags, FileWithCredits, IsClaim, calls_by}
+use Rattle.meaning_packages.specs.CallsFlags.{Flags, ComesBackBy, FileWithCredits, IsClaim, calls_by}
 use Rattle.meaning_packages.specs.Credits.{body_at, Credits, begun_after}
 use Rattle.meaning_packages.specs.PathFaults.{paths_of}
 use Rattle.meaning_reports.proofs.OneAnswer.{same_test, one_table_by}
@@ -17,7 +17,7 @@ use Rattle.meaning_reports.proofs.OneReport.{seen_by}
 use Rattle.meaning_reports.specs.Loaded.{LoadedPackage, Tables, imported_flags, seen_files}
 use Rattle.verifier.specs.Rules.{GivenByPath, IsVerified}
 use Rattle.verifier.specs.FoundBodies.{with_table}
-use Rattle.verifier.specs.Verified.{Given, IsClaimed, AreClaimed, flags_of_body, checked, IsCertified, SettlesBy, IsCreditedBy, AreGivenCredits}
+use Rattle.verifier.specs.Verified.{Given, nothing_known, IsClaimed, AreClaimed, flags_of_body, checked, IsCertified, SettlesBy, IsCreditedBy, AreGivenCredits}
 use Rattle.verifier.specs.VerifierLaws.{FlagsAreDetermined}
 
 -- Flags
@@ -41,6 +41,8 @@ claimed_too files others same given name k h =
       is_claim = subst (λ seen. IsClaim seen h.body h.variable name k) (sym w.2) h.is_claim;
       is_given = h.is_given;
       has_its_type = ap (λ (seen : Seen). facts_take_type (cancel_type h.type) k (seen.known.functions name)) w.2 ∙ h.has_its_type;
+      comes_back = subst (λ (seen : Seen). ComesBackBy seen.known.edition (paths_of seen nothing_known h.body)) (sym w.2)
+          h.comes_back;
     }
 
 pub one_claimed : (files others : List FileWithCredits) → seen_of files ≡ seen_of others → (given : Given)
@@ -100,11 +102,15 @@ module _ (given : Given) (own : Flags) (calls : Callee → ℕ → Bool) (number
   credited_too one other literal variable same h = record {
     body = h.body;
     is_there = h.is_there;
-    settled =
-        settled_too one other h.body variable
-        (subst (λ n. begun_after n one ≡ begun_after n other) (sym (at_its_offset literal (bodies_of seen) h.body h.is_there))
-        same)
-        h.settled;
+    relied = record {
+      settles =
+          settled_too one other h.body variable
+          (subst (λ n. begun_after n one ≡ begun_after n other) (sym (at_its_offset literal (bodies_of seen) h.body h.is_there))
+          same)
+          h.relied.settles;
+      binds_none = h.relied.binds_none;
+      comes_back = h.relied.comes_back;
+    };
   }
 
   pub one_table : (one other : Credits) → AreGivenCredits given own calls number (with_table seen one)

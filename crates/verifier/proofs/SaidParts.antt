@@ -20,7 +20,7 @@ use Rattle.meaning_reports.specs.PackageReports.{use_entry}
 use Rattle.mentions.specs.MarkViews.{body_view}
 use Rattle.report.specs.Entries.{Entry, entry_of}
 use Rattle.report.specs.declared.diagnostics.Diagnostic.{Diagnostic}
-use Rattle.verifier.specs.FoundBodies.{with_table, IsFound, IsUncertified, IsUncertifiedIn, FindsBody}
+use Rattle.verifier.specs.FoundBodies.{with_table, IsFoundReliedOn, IsUncertified, IsUncertifiedIn, FindsBody}
 use Rattle.verifier.specs.SaidEntries.{uncertified_entries, IsUseOrPassIn, SaysAll}
 use Rattle.verifier.specs.Verified.{Given, IsCertified, AreGivenCredits, IsSaid, outside_bodies, of_use, of_pass, not_certified, uncertified_entry}
 
@@ -77,7 +77,7 @@ module _ (given : Given) (own : Flags) (calls : Callee → ℕ → Bool) (number
     its_these : SettlesThese b.at numbers before after
     its_these = subst (λ (p : BodyPlace). SettlesThese p.at numbers before after) tells.is_place these
 
-    pub found_some : IsFound given own calls number (with_table seen (has before)) b (Some numbers)
+    pub found_some : IsFoundReliedOn given own calls number (with_table seen (has before)) b (Some numbers)
         → FindsBody given own calls number seen b (has before) (has after) said said
     found_some found = record {
       there = λ variable. (
@@ -91,12 +91,12 @@ module _ (given : Given) (own : Flags) (calls : Callee → ℕ → Bool) (number
     pub found_none : (said_then : List Diagnostic) → numbers ≡ []
         → map entry_of said_then
         ≡ map entry_of said ++ uncertified_entries body.is_unfollowed body.file (body_view body.place)
-        → IsFound given own calls number (with_table seen (has before)) b None
+        → IsFoundReliedOn given own calls number (with_table seen (has before)) b None
         → FindsBody given own calls number seen b (has before) (has after) said said_then
     found_none said_then no_number added none = record {
       there = λ variable. (
         λ e. absurd (false≢true (ap (λ ns. is_among ns variable) (sym no_number) ∙ (sym (its_these.there variable) ∙ e))),
-        λ h. absurd (none h.certified),
+        λ h. absurd (none h.settles.certified),
       );
       others = its_these.others;
       entries =

@@ -1,8 +1,11 @@
 -- The claims that are believed, as the program goes over them.
 use Rattle.std.specs.Prelude.{ℕ, Bool, false, if◌then◌else◌, List, [], ◌∷◌, Option, Some, None}
-use Rattle.calls_flags.specs.Claims.{Claim}
+use Rattle.calls_flags.specs.Claims.{Claim, IsClaimOf, ComesBackThere}
 use Rattle.meaning.specs.FunctionFacts.{CancelType, cancel_type, FunctionFacts}
+use Rattle.meaning.specs.BodyEvents.{Variable}
+use Rattle.meaning.specs.Mentions.{BodyPlace}
 use Rattle.meaning.specs.Uses.{facts_take_type}
+use Rattle.meaning_packages.specs.CallsFlags.{FileWithCredits}
 
 -- a claim with that type, or none, of a parameter of a function with these facts
 abbrev pub has_type : Option FunctionFacts → ℕ → Option CancelType → Bool
@@ -16,3 +19,11 @@ module _ (facts : List ℕ → Option FunctionFacts) (claims : List ℕ → ℕ 
   abbrev pub believes : List Claim → List Claim
   believes [] = []
   believes (c ∷ cs) = if is_believed c then c ∷ believes cs else believes cs
+
+-- the claim's function comes back, if the edition asks for that
+pub record ComesBackOf (files : List FileWithCredits) (c : Claim) : Type 0 where
+  pub file : FileWithCredits
+  pub body : BodyPlace
+  pub variable : Variable
+  pub is_claim : IsClaimOf files c file body variable
+  pub comes_back : ComesBackThere file.seen file.credits body variable

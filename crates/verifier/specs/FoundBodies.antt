@@ -9,7 +9,7 @@ use Rattle.meaning_packages.specs.CallsFlags.{Flags, FileWithCredits}
 use Rattle.meaning_packages.specs.Credits.{Credits, body_at}
 use Rattle.report.specs.Entries.{Entry}
 use Rattle.report.specs.declared.diagnostics.Diagnostic.{Diagnostic}
-use Rattle.verifier.specs.Verified.{Given, IsCertified, SettlesBy, IsCreditedBy, uncertified_entry}
+use Rattle.verifier.specs.Verified.{Given, IsCertified, SettlesBy, IsReliedOnBy, IsCreditedBy, uncertified_entry}
 
 -- the file that was seen so, with these credits
 abbrev pub with_table : Seen → Credits → FileWithCredits
@@ -23,6 +23,13 @@ module _ (given : Given) (own : Flags) (calls : Callee → ℕ → Bool) (number
       IsCertified given own calls number file b
       × ((variable : ℕ) → (is_among settled variable ≡ true) ↔ SettlesBy given own calls number file b variable)
 
+  -- the same of those for which it is relied on
+  abbrev pub IsFoundReliedOn : BodyPlace → Option (List ℕ) → Type 0
+  IsFoundReliedOn b None = IsCertified given own calls number file b → ⊥
+  IsFoundReliedOn b (Some relied) =
+      IsCertified given own calls number file b
+      × ((variable : ℕ) → (is_among relied variable ≡ true) ↔ IsReliedOnBy given own calls number file b variable)
+
   -- it is said of the body that it has no certificate that holds
   pub record IsUncertified (b : BodyPlace) (x : Entry) : Type 0 where
     pub is_followed : unfollowed_faults file.seen b ≡ []
@@ -34,10 +41,11 @@ module _ (given : Given) (own : Flags) (calls : Callee → ℕ → Bool) (number
   IsUncertifiedIn = IsOfBodies IsUncertified
 
 module _ (given : Given) (own : Flags) (calls : Callee → ℕ → Bool) (number : ℕ) (seen : Seen) where
-  -- what the body settles is told of its offset, and nothing changes elsewhere; and it is said if it is not certified
+  -- what the body is relied on for is told of its offset, and nothing changes elsewhere; and it is said if it is not
+  -- certified
   pub record FindsBody (b : BodyPlace) (before after : Credits) (said said_then : List Diagnostic) : Type 0 where
     pub there : (variable : ℕ)
-        → (after b.at variable ≡ true) ↔ SettlesBy given own calls number (with_table seen before) b variable
+        → (after b.at variable ≡ true) ↔ IsReliedOnBy given own calls number (with_table seen before) b variable
     pub others : (other variable : ℕ) → nat_eq b.at other ≡ false → after other variable ≡ before other variable
     pub entries : AddsEntries said said_then (IsUncertified given own calls number (with_table seen before) b)
 

@@ -6,6 +6,7 @@ pub mod VerifierLaws
 -- For a reader of the contracts: what the program finds, part by part.
 pub mod BareFiles
 pub mod BelievedClaims
+pub mod ReliedOn
 pub mod SettledPlaces
 pub mod FoundBodies
 pub mod SaidEntries

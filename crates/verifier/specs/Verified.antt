@@ -3,7 +3,9 @@
 --  - A function is known to call a parameter where the package's certificates claim it, and it may be known of that
 --    parameter (`IsClaim`), and the claim has its type.
 --  - A literal is relied on for a variable that it captures where its own certificate holds and leaves the variable
---    settled at each return. It relies on the literals in it, as the body around it does.
+--    settled at each return. It relies on the literals in it, as the body around it does. By the second edition neither
+--    it nor a literal in it may bind the variable, and some return of one under `go` is reached. So is one of a
+--    function that is known to call a parameter.
 --  - The paths of a body are not looked for: it has a certificate that holds, or this is said of it. A body of which no
 --    paths are followed, with too many variables, or with variables and a `goto`, needs none. All else is said as by
 --    `check`.
@@ -20,9 +22,10 @@ use Rattle.flow.specs.GraphOfCode.{nodes}
 use Rattle.meaning.specs.BodyEvents.{Variable, captured, bodies_of, variables_of, outer_faults, body_faults, unfollowed_faults}
 use Rattle.meaning.specs.FunctionFacts.{CancelType, cancel_type}
 use Rattle.meaning.specs.Mentions.{BodyPlace}
-use Rattle.meaning.specs.Uses.{Callee, UseFault, facts_take_type}
-use Rattle.meaning_packages.specs.CallsFlags.{Flags, FileWithCredits, IsClaim}
-use Rattle.meaning_packages.specs.Credits.{body_at, promises_in}
+use Rattle.meaning.specs.Classes.{Promises}
+use Rattle.meaning.specs.Uses.{Callee, UseFault, facts_take_type, goes_off}
+use Rattle.meaning_packages.specs.CallsFlags.{Flags, ComesBackBy, FileWithCredits, IsClaim}
+use Rattle.meaning_packages.specs.Credits.{body_at, promises_in, no_calls, binds_captured, MayComeBack}
 use Rattle.meaning_packages.specs.PathFaults.{PathFault, Paths, paths_of, IsPassFault}
 use Rattle.meaning_reports.specs.PackageReports.{use_entry, path_entry}
 use Rattle.report.specs.declared.codes.DiagnosticCode.TheVariants.{NoCertificate}
@@ -36,6 +39,10 @@ pub record Given : Type 0 where
 
 -- Flags
 
+-- nothing is relied on: whether a body comes back goes by its code alone
+abbrev pub nothing_known : Promises
+nothing_known = record { calls = no_calls; credits = λ literal number. false }
+
 pub record IsClaimed (files : List FileWithCredits) (given : Given) (name : List ℕ) (k : ℕ) : Type 0 where
   pub file : FileWithCredits
   pub body : BodyPlace
@@ -45,6 +52,7 @@ pub record IsClaimed (files : List FileWithCredits) (given : Given) (name : List
   pub is_claim : IsClaim file.seen body variable name k
   pub is_given : given.claims name k ≡ Some type
   pub has_its_type : facts_take_type (cancel_type type) k (file.seen.known.functions name) ≡ true
+  pub comes_back : ComesBackBy file.seen.known.edition (paths_of file.seen nothing_known body)
 
 -- exactly what is claimed and may be known is known
 abbrev pub AreClaimed : List FileWithCredits → Given → Flags → Type 0
@@ -104,14 +112,23 @@ pub record SettlesBy
       (checked (paths_of file.seen (promises_in calls file.credits b.at) b) (flags_of_body own b) certified.order)
       certified.rows place found
 
--- the literal at that offset does so
+-- so it does, neither the body nor a literal in it binds the variable, and the body comes back, if it must
+pub record IsReliedOnBy
+    (given : Given) (own : Flags) (calls : Callee → ℕ → Bool) (number : ℕ) (file : FileWithCredits) (b : BodyPlace)
+    (variable : ℕ)
+    : Type 0 where
+  pub settles : SettlesBy given own calls number file b variable
+  pub binds_none : binds_captured file.seen.known.edition file.seen b.at variable ≡ false
+  pub comes_back : MayComeBack file.seen.known.edition (goes_off b.literal) (paths_of file.seen nothing_known b)
+
+-- the literal at that offset is relied on so
 pub record IsCreditedBy
     (given : Given) (own : Flags) (calls : Callee → ℕ → Bool) (number : ℕ) (file : FileWithCredits)
     (literal variable : ℕ)
     : Type 0 where
   pub body : BodyPlace
   pub is_there : body_at literal (bodies_of file.seen) ≡ Some body
-  pub settled : SettlesBy given own calls number file body variable
+  pub relied : IsReliedOnBy given own calls number file body variable
 
 -- all credits of the file of that number, by its certificates: there is one such table
 abbrev pub AreGivenCredits : Given → Flags → (Callee → ℕ → Bool) → ℕ → FileWithCredits → Type 0

@@ -10,12 +10,13 @@ ghost use Rattle.events.specs.ToldViews.{TellsFile};
 ghost use Rattle.meaning.specs.BodyEvents.{unfollowed_faults};
 ghost use Rattle.meaning.specs.Mentions.{BodyPlace};
 ghost use Rattle.meaning.specs.Uses.{Seen};
-ghost use Rattle.verifier.specs.FoundBodies.{with_table, IsFound};
+ghost use Rattle.verifier.specs.FoundBodies.{with_table, IsFound, IsFoundReliedOn};
 ghost use Rattle.verifier.specs.GivenViews.{TellsGiven};
 ghost use Rattle.verifier.specs.Verified.{Given as MeantGiven};
 
 use crate::body_claims::BodyClaims;
 use crate::given::GivenPackage;
+use crate::relied::relied_on;
 use crate::settled::settled_captured;
 use bodies::{Body, BodyGraph, ordered_graph};
 use calls_flags::{KnownCalls, function_name};
@@ -83,7 +84,7 @@ fn found_in(
 }
 
 /// What is found of the certificate of a body: where its paths are followed, and one is given and holds, the
-/// numbers of the captured variables that it settles.
+/// numbers of the captured variables for which the body is relied on.
 ///
 /// # Errors
 ///
@@ -98,7 +99,7 @@ pub fn find_certificate<'a>(
         → TellsFile seen grounds.entry.told.now
         → TellsBody number seen b body.now
         → (g : MeantGiven) → TellsGiven g grounds.entry.given.now
-        → IsFound g (is_called grounds.entry.calls.own.now) (known_calls grounds.entry.calls) number
+        → IsFoundReliedOn g (is_called grounds.entry.calls.own.now) (known_calls grounds.entry.calls) number
         (with_table seen (has credits.now)) b (option_map (λ numbers. numbers.items) found)) }
 {
     if body.is_unfollowed {
@@ -109,7 +110,10 @@ pub fn find_certificate<'a>(
     };
     let given = GivenBody { body, rows };
     match &body.graph {
-        Some(kept) => found_in(alloc, grounds, given, kept, credits),
+        Some(kept) => {
+            let found = found_in(alloc, grounds, given, kept, credits)?;
+            relied_on(alloc, body, kept, credits, found)
+        }
         None => {
             let kept = ordered_graph(alloc, grounds.told, body.place)?;
             found_in(alloc, grounds, given, &kept, credits)

@@ -1,18 +1,18 @@
 //! Which parameters the functions of a package are known to call, by its certificates.
 
 ghost use Rattle.std.specs.Prelude.{◌≡◌, List, IfOk, map};
-ghost use Rattle.calls_flags.specs.Claims.{claim_view, HaveFacts};
+ghost use Rattle.calls_flags.specs.Claims.{claim_view, AreClaims, HaveFacts, Sieves};
 ghost use Rattle.calls_flags.specs.FilesBodies.{TellAll};
 ghost use Rattle.called_parameters.specs.Called.{is_called};
 ghost use Rattle.facts.specs.FactViews.{facts_by_name};
 ghost use Rattle.meaning_packages.specs.CallsFlags.{FileWithCredits};
-ghost use Rattle.verifier.specs.BelievedClaims.{believes, is_believed};
+ghost use Rattle.verifier.specs.BelievedClaims.{ComesBackOf, believes, is_believed};
 ghost use Rattle.verifier.specs.GivenViews.{TellsGiven, claim_in, params_at};
 ghost use Rattle.verifier.specs.Verified.{AreClaimed, Given as MeantGiven};
 
 use crate::given::{GivenClaims, GivenPackage};
 use called_parameters::Called;
-use calls_flags::{Claim, FileBodies, called_by, find_claims};
+use calls_flags::{Claim, FileBodies, called_by, claim_comes_back, find_claims};
 use facts::{Table, TrackedType};
 use std::alloc::{AllocError, Global};
 
@@ -50,6 +50,25 @@ fn believed<'a>(
     Ok(kept)
 }
 
+/// Those of the claims whose functions come back, if the edition asks for that.
+fn that_come_back<'a>(
+    alloc: Global,
+    files: &[FileBodies<'_, 'a>],
+    claims: &[Claim<'a>],
+) -> Result<Vec<Claim<'a>>, AllocError>
+    ensures { IfOk result (λ kept. (fs : List FileWithCredits) → TellAll fs files.now
+        → AreClaims fs (map claim_view claims.now)
+        → Sieves (ComesBackOf fs) (map claim_view claims.now) (map claim_view kept.items)) }
+{
+    let mut kept = Vec::new(alloc);
+    for claim in claims {
+        if claim_comes_back(alloc, files, *claim)? {
+            kept.push(*claim)?;
+        }
+    }
+    Ok(kept)
+}
+
 /// Finds which parameters the functions of a package are known to call, where they have these facts: those of which it
 /// may be known, and of which it is claimed, with their types.
 ///
@@ -69,5 +88,6 @@ pub fn find_claimed<'a>(
 {
     let claims = find_claims(alloc, table, files)?;
     let kept = believed(alloc, table, &given.claims, &claims)?;
-    called_by(alloc, &kept)
+    let known = that_come_back(alloc, files, &kept)?;
+    called_by(alloc, &known)
 }

@@ -11,6 +11,7 @@ mod certified;
 mod claimed;
 mod first;
 mod given;
+mod relied;
 mod rules;
 mod said;
 mod settled;

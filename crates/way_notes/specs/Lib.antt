@@ -1,4 +1,6 @@
 -- What is told of a way.
 pub mod Notes
+-- Where it goes.
+pub mod Offsets
 -- What only serves proofs.
 pub mod NoteViews

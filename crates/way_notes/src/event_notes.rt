@@ -61,6 +61,9 @@ fn note_of_event(told: Told, at: u32, event: &Event<'_>) -> Option<Note>
         Event::Wait { .. } => None,
         Event::DeferWait { .. } => None,
         Event::DeferLiteral { .. } => None,
+        Event::GoCall { .. } => None,
+        Event::GoPass { .. } => None,
+        Event::GoLiteral { .. } => None,
         Event::Return { .. } => None,
     }
 }
@@ -100,6 +103,9 @@ fn event_binds(told: Told, event: &Event<'_>) -> bool
         Event::Wait { .. } => false,
         Event::DeferWait { .. } => false,
         Event::DeferLiteral { .. } => false,
+        Event::GoCall { .. } => false,
+        Event::GoPass { .. } => false,
+        Event::GoLiteral { .. } => false,
         Event::Return { .. } => false,
     }
 }

@@ -12,7 +12,7 @@ use Rattle.meaning.specs.Classes.{CancelClass, unset, opened, kept, safe, pendin
 use Rattle.meaning.specs.Code.{Occurrence}
 use Rattle.meaning.specs.FunctionFacts.{VariableKind, cancel, group}
 use Rattle.meaning.specs.Tracked.{GroupState, live, idle}
-use Rattle.meaning.specs.Uses.{VariableAt, Handed, Event, other, obtain, obtain_kept, renew, keep, call_kept, defer_kept, give, give_field, clear, call, defer_call, pass, defer_pass, lend, start, try, wait, defer_wait, make, defer_literal, return_event, is_cancel, is_group}
+use Rattle.meaning.specs.Uses.{VariableAt, Handed, Event, other, obtain, obtain_kept, renew, keep, call_kept, defer_kept, give, give_field, clear, call, defer_call, pass, defer_pass, lend, start, try, wait, defer_wait, make, defer_literal, go, return_event, is_cancel, is_group}
 use Rattle.meaning_packages.specs.Credits.{is_live}
 use Rattle.meaning_packages.specs.PathFaults.{PathCode, overwritten, not_called, group_is_live, group_overwritten, left_to_live_group, passed_on, PathFault, Paths, is_declared, is_lost, is_handed, is_handed_kept, cancel_class, group_class, BindsCancel, obtains, obtains_into, clears, OwesCall, LeavesLive, IsLeft}
 use Rattle.path_faults.proofs.Kept.{same_number, is_same, is_cancel_kind, is_group_kind}
@@ -218,6 +218,7 @@ module _ (b : Paths) (lives_at : NodePlace → ℕ → Bool) (tells : TellsLives
       cancel_told (wait g) is h = absurd (false≢true h)
       cancel_told (defer_wait g) is h = absurd (false≢true h)
       cancel_told (defer_literal l) is h = absurd (false≢true h)
+      cancel_told (go work) is h = absurd (false≢true h)
 
     -- Groups
 
@@ -270,6 +271,7 @@ module _ (b : Paths) (lives_at : NodePlace → ℕ → Bool) (tells : TellsLives
       group_fault (wait g) is h = absurd (false≢true h)
       group_fault (defer_wait g) is h = absurd (false≢true h)
       group_fault (defer_literal l) is h = absurd (false≢true h)
+      group_fault (go work) is h = absurd (false≢true h)
 
   -- By numbers of classes
 

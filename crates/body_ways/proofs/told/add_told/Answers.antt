@@ -27,12 +27,22 @@ returns g c b is is_fault =
     let way = c.in-Some.way in
     let tells = subst (λ (w : Option Way). TellsWayOf b f graph (option_map way_view w)) c.in-Some.is
     (c.in_ok-way.ensures b is) in
-    let told : ToldFault = record { fault = c.args.fault; notes = c.in_ok-notes.notes } in
+    let told : ToldFault = record {
+      fault = c.args.fault;
+      notes = c.in_ok-notes.notes;
+      offsets = c.in_ok-offsets.offsets;
+    } in
     record {
-      told = record { fault = f; notes = map note_view c.in_ok-notes.notes.items };
+      told = record {
+        fault = f;
+        notes = map note_view c.in_ok-notes.notes.items;
+        offsets = c.in_ok-offsets.offsets.items;
+      };
       is_it = refl;
       is_told = told_so b (map branch_view c.args.branches.now) f (way_view way) graph is.is_graph tells
-          c.deref.result.now c.deref.ensures.value (map note_view c.in_ok-notes.notes.items) c.in_ok-notes.ensures is_fault;
+          c.deref.result.now c.deref.ensures.value c.deref-2.result.now c.deref-2.ensures.value
+          (map note_view c.in_ok-notes.notes.items) c.in_ok-notes.ensures c.in_ok-offsets.offsets.items
+          c.in_ok-offsets.ensures is_fault;
       added = ap (map told_fault_view) c.in_ok-push.ensures.items
           ∙ map-append told_fault_view c.args.told.now.items (told ∷ []);
     }

@@ -6,7 +6,7 @@ use Rattle.meaning.specs.BodyEvents.{mark_faults, is_site}
 use Rattle.meaning.specs.Uses.{is_body, is_outside}
 use Rattle.uses.specs.OutcomeViews.{fault_view, plain_faults}
 use Rattle.events.specs.ToldViews.{faults_at, events_in, faults_by_variables, if_there}
-use Rattle.events.proofs.MarkEvents.{events_split, three_there}
+use Rattle.events.proofs.MarkEvents.{events_split, four_there}
 use Rattle.events.proofs.VariableFaults.{faults_split}
 use Rattle.events.proofs.told.add_mark.Goals as goal
 
@@ -35,12 +35,13 @@ returns c =
           ∙ ap (λ fs. faults_at told.faults body ++ if_there (is_body body bodies) fs) fresh;
       events = λ body at.
           let here : Bool = is_body body bodies && is_site mark at in
-          three_there here _ _ _ _ _ _ _
+          four_there here _ _ _ _ _ _ _ _ _
           (c.in_ok-add_event.ensures body at
           ∙ ap (λ es. events_in told.events body at ++ if_there here es) c.in_ok-event.ensures.1)
-          (c.in_ok-add_error_calls.ensures body at) (c.in_ok-add_kept.ensures body at)
+          (c.in_ok-add_error_calls.ensures body at) (c.in_ok-add_kept.ensures body at) (c.in_ok-add_sent.ensures body at)
           ∙ ap (λ es. events_in told.events body at ++ if_there here es) (events_split seen bodies mark);
       panics = c.in_ok-add_panic.ensures;
+      bound = c.in_ok-add_bound.ensures;
       keeping = c.in_ok-add_names.ensures;
       opened = opened;
       edition = refl;

@@ -37,9 +37,9 @@ returns-in-OfFields c =
       pointers = adds_none (reason_in c.args.told.now.pointers) _ (λ n. refl);
     })
 
-pub returns-in-DefersLiteral : goal.returns-in-DefersLiteral
-returns-in-DefersLiteral c =
-    rw c.in-DefersLiteral.is
+pub returns-in-RunsLiteral : goal.returns-in-RunsLiteral
+returns-in-RunsLiteral c =
+    rw c.in-RunsLiteral.is
     (record {
       compared = adds_none (reason_in c.args.told.now.compared) _ (λ n. refl);
       cancels = adds_none (reason_in c.args.told.now.cancels) _ (λ n. refl);

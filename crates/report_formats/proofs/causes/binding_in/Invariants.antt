@@ -1,6 +1,0 @@
-use Rattle.std.proofs.Common.{◌≡◌, drop}
-use Rattle.report_formats.specs.Causes.{binding_in}
-use Rattle.report_formats.proofs.causes.binding_in.Given as goal
-
-abbrev pub invariant-loop-note : goal.invariant-loop-note
-invariant-loop-note l = binding_in (drop l.note-index l.notes) ≡ binding_in l.notes

@@ -1,0 +1,10 @@
+package a
+
+import "context"
+
+func f(p context.Context, b bool) {
+	_, cancel := context.WithCancel(p)
+	if b {
+		go cancel()
+	}
+}

@@ -1,0 +1,12 @@
+package a
+
+import "context"
+
+func f(p context.Context, b bool) {
+	_, cancel := context.WithCancel(p)
+	if b {
+		go func() { cancel() }()
+	} else {
+		go cancel()
+	}
+}

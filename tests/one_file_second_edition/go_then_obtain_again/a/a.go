@@ -1,0 +1,10 @@
+package a
+
+import "context"
+
+func f(p context.Context, b bool) {
+	_, cancel := context.WithCancel(p)
+	go cancel()
+	_, cancel = context.WithCancel(p)
+	cancel()
+}

@@ -1,0 +1,9 @@
+package a
+
+import "context"
+
+func f(p context.Context, b bool) {
+	_, cancel := context.WithCancel(p)
+	return
+	go func() { cancel() }()
+}

@@ -1,0 +1,14 @@
+package a
+
+import "context"
+
+func f(p context.Context, b bool) {
+	_, cancel := context.WithCancel(p)
+	go func() {
+		if b {
+			go func() {
+				cancel()
+			}()
+		}
+	}()
+}

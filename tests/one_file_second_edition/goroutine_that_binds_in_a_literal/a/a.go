@@ -1,0 +1,13 @@
+package a
+
+import "context"
+
+func f(p context.Context) {
+	_, cancel := context.WithCancel(p)
+	go func() {
+		cancel()
+		defer func() {
+			cancel = nil
+		}()
+	}()
+}

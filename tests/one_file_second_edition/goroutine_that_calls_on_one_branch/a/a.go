@@ -1,0 +1,12 @@
+package a
+
+import "context"
+
+func f(p context.Context, b bool) {
+	_, cancel := context.WithCancel(p)
+	go func() {
+		if b {
+			cancel()
+		}
+	}()
+}

@@ -1,0 +1,13 @@
+package a
+
+import "context"
+
+func f(p context.Context, done chan int) {
+	_, cancel := context.WithCancel(p)
+	go func() {
+		if <-done == 0 {
+			return
+		}
+		cancel()
+	}()
+}

@@ -1,0 +1,18 @@
+package a
+
+import (
+	"context"
+	"golang.org/x/sync/errgroup"
+)
+
+func f(p context.Context, b bool) {
+	var g errgroup.Group
+	_, cancel := context.WithCancel(p)
+	g.Go(work)
+	cancel()
+	go func() {
+		for {
+			g.Wait()
+		}
+	}()
+}

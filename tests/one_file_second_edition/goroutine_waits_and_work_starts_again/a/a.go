@@ -1,0 +1,15 @@
+package a
+
+import (
+	"context"
+	"golang.org/x/sync/errgroup"
+)
+
+func f(p context.Context, b bool) {
+	var g errgroup.Group
+	_, cancel := context.WithCancel(p)
+	g.Go(work)
+	go func() { g.Wait() }()
+	g.Go(work)
+	cancel()
+}

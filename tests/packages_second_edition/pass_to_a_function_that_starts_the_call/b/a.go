@@ -1,0 +1,7 @@
+package b
+
+import "context"
+
+func Fin(c context.CancelFunc) {
+	go func() { c() }()
+}

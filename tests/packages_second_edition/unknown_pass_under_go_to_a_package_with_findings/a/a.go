@@ -1,0 +1,12 @@
+package a
+
+import (
+	"b"
+	"context"
+)
+
+func f(p context.Context) {
+	_, cancel := context.WithCancel(p)
+	go b.Fin(cancel)
+	defer cancel()
+}
