@@ -1,4 +1,5 @@
 mod UnitFaults
+mod FlagFaults
 mod TakenImports
 mod CallFaults
 mod OtherFacts

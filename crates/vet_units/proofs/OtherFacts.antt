@@ -1,14 +1,13 @@
 -- What is declared of given packages plays no part: what follows from what was told does so whatever is declared of
 -- these.
-use Rattle.std.proofs.Common.{◌≡◌, ℕ, Bool, true, false, List, [], ◌∷◌, Some, refl, sym, ap, ◌∙◌, bytes_eq}
-use Rattle.std.specs.Prelude.{filter, slice_get}
+use Rattle.std.proofs.Common.{◌≡◌, ℕ, Bool, true, false, List, [], ◌∷◌, refl, sym, ap, ◌∙◌, bytes_eq}
 use Rattle.std.proofs.lemmas.Slice.Eq.{bytes_eq-Decides}
 use Rattle.accepting.specs.Findings.{FoundEntry}
 use Rattle.declared_json.specs.DeclaredPackages.{PackageEntry, table_at}
 use Rattle.explanations.specs.Units.{NotesFollow}
 use Rattle.gathering.specs.Results.{FollowsFromTold, HasFinding, HaveTold, IsNotGiven, IsSaidBy, IsToldBy, Told, Tellings}
 use Rattle.inputs.specs.KnownPackages.{all_known, known_beside}
-use Rattle.unit_reports.specs.Units.{HoldsExplained, HoldsOfUnit}
+use Rattle.unit_reports.specs.Units.{HoldsOfUnit}
 use Rattle.library_facts.specs.Beside.{but_given}
 use Rattle.meaning_reports.specs.Loaded.{LoadedPackage, Tables}
 use Rattle.meaning_reports.specs.PackageReports.{Said, by_paths, IsFindingBy, of_whole, of_import, of_dot, of_files}

@@ -1,5 +1,5 @@
 -- Each yes among units that ran in order is quiet.
-use Rattle.std.proofs.Common.{◌⊎◌, ◌≡◌, ◌<◌, ◌≤◌, ℕ, zero, suc, inl, inr, Bool, true, false, cond, ◌&&◌, not, List, [], ◌∷◌, map, length, All, Contains, Option, Some, None, is_some, option_map, refl, sym, ap, ◌∙◌, subst, string_bytes, arith, bytes_eq}
+use Rattle.std.proofs.Common.{◌⊎◌, ◌≡◌, ◌<◌, ℕ, zero, suc, inl, inr, Bool, true, false, cond, List, [], ◌∷◌, map, length, All, Contains, Option, Some, None, is_some, option_map, refl, sym, ap, ◌∙◌, subst, string_bytes, arith, bytes_eq}
 use Rattle.std.specs.Prelude.{filter, slice_get, if◌then◌else◌}
 use Rattle.std.specs.List.{AllByRecursion, AllZip}
 use Rattle.std.proofs.lemmas.Bool.{false≢true}
@@ -11,7 +11,6 @@ use Rattle.vet_units.proofs.OtherFacts.{follows_so, notes_so, holds_so, known_sa
 use Rattle.command_line.specs.declared.vet_told.UnitFlags.{UnitFlags}
 use Rattle.declared_json.specs.DeclaredPackages.{PackageEntry, packages_of, table_at}
 use Rattle.declared_tables.specs.DeclaredTables.{declared_tables, table_declared}
-use Rattle.first_values.specs.ValuesByName.{only_at}
 use Rattle.gathering.specs.Results.{IsNotGiven}
 use Rattle.folders.specs.ReadFiles.{bytes_read}
 use Rattle.imports.specs.Ranks.{Imports, Package}
@@ -43,7 +42,7 @@ use Rattle.vetx_json.specs.VetxTexts.{IsWrittenText}
 use Rattle.whole_packages.specs.LoadedViews.{TellsPackage}
 use Rattle.vet_units.specs.JudgedUnits.{IsCounted, IsShapeOf}
 use Rattle.vet_units.specs.UnitsRead.{edition_of_unit}
-use Rattle.vet_units.specs.QuietUnits.{known_to, package_of, packages_in, said_in, IsQuietAmong, RanInOrder, RanUnit, SilenceIsYes, WasTold}
+use Rattle.vet_units.specs.QuietUnits.{known_to, package_of, packages_in, said_in, IsQuietAmong, RanInOrder, RanUnit, SilenceIsYes}
 
 -- Imports that count
 

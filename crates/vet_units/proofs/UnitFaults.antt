@@ -16,7 +16,7 @@ use Rattle.inputs.proofs.FaultsRead.{only_one}
 use Rattle.inputs.specs.BaselinesRead.{IsReadBaselineFault}
 use Rattle.inputs.specs.DeclaredFacts.{AreDeclaredBy, IsReadFactsFault}
 use Rattle.vet_units.specs.UnitRuns.{IsKeepingFault, IsOwnFileFault}
-use Rattle.vet_units.specs.UnitsRead.{digest_for, edition_of_unit, IsInputFaultOf}
+use Rattle.vet_units.specs.UnitsRead.{digest_for, edition_of_unit, IsFlagFileFault, IsInputFaultOf}
 
 -- of the program's own file
 pub of_own_file : (names : List ℕ → Type 0) (fault : Fault) → IsReadFaultOf names fault → IsOwnFileFault fault
@@ -47,7 +47,7 @@ module _ (flags : UnitFlags) (unit : UnitEntry) where
   of_unit_module OutOfMemory is = tt
   of_unit_module _ is = absurd is
 
-  pub of_unit_facts : (fault : Fault) → IsReadFactsFault (option_texts flags.facts) fault
+  of_unit_facts : (fault : Fault) → IsReadFactsFault (option_texts flags.facts) fault
       → IsInputFaultOf flags unit fault
   of_unit_facts (CannotRead text) is = record {
     name = is.name;
@@ -61,7 +61,7 @@ module _ (flags : UnitFlags) (unit : UnitEntry) where
   of_unit_facts (FactsReserved text) is = is
   of_unit_facts _ is = absurd is.so.is_fault
 
-  pub of_unit_baseline : (fault : Fault) → IsReadBaselineFault (option_texts flags.baseline) fault
+  of_unit_baseline : (fault : Fault) → IsReadBaselineFault (option_texts flags.baseline) fault
       → IsInputFaultOf flags unit fault
   of_unit_baseline (CannotRead text) is = record {
     name = is.name;
@@ -72,6 +72,10 @@ module _ (flags : UnitFlags) (unit : UnitEntry) where
   of_unit_baseline BaselineNotJson is = is
   of_unit_baseline BaselineWrongShape is = is
   of_unit_baseline _ is = absurd is.so.is_fault
+
+  pub of_flag_files : (fault : Fault) → IsFlagFileFault flags fault → IsInputFaultOf flags unit fault
+  of_flag_files fault (inl is) = of_unit_facts fault is
+  of_flag_files fault (inr is) = of_unit_baseline fault is
 
   pub of_unit_told : (facts : Option ReadFile) (outside : DeclaredPackages)
       → AreDeclaredBy (option_texts flags.facts) facts outside

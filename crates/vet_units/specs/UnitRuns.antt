@@ -27,7 +27,7 @@ use Rattle.vet_units.specs.Digests.{digest_text}
 use Rattle.inputs.specs.LoadFaults.{fault_of_load}
 use Rattle.printed.specs.Printing.{is_of_writing, AppendsFront}
 use Rattle.printed.specs.Statuses.{status_of}
-use Rattle.vet_units.specs.UnitsRead.{IsInputFaultOf, IsInputOf}
+use Rattle.vet_units.specs.UnitsRead.{IsFlagFileFault, IsInputFaultOf, IsInputOf}
 use Rattle.printed.specs.declared.status.Status.{Status}
 use Rattle.printed.specs.declared.status.Status.TheVariants.{Fine, Found, Faulty}
 use Rattle.vet_units.specs.declared.unit_input.UnitInput.{UnitInput}
@@ -213,9 +213,33 @@ IsToldOnce file Fine = is_some (run_folder file) ≡ true
 IsToldOnce file Found = ⊥
 IsToldOnce file Faulty = ⊤
 
+-- memory was refused, which is no fault that all units have
+abbrev pub is_of_memory : Fault → Bool
+is_of_memory OutOfMemory = true
+is_of_memory _ = false
+
+-- The unit was read, and a file that the flags name has a fault, which all units of one run of the go command have. One
+-- of them tells it and fails, and so does that run; this one ends well, and prints nothing.
+pub record IsLeftToAnother
+    (flags : UnitFlags) (file : List ℕ) (status : Status) (old new : Option (List ℕ))
+    : Type 0 where
+  pub read : UnitRead
+  pub is_read : IsUnitRead file read
+  pub fault : Fault
+  pub is_fault : IsFlagFileFault flags fault
+  pub is_of_all : is_of_memory fault ≡ false
+  pub is_in_run : is_some (run_folder file) ≡ true
+  pub is_status : status ≡ Fine
+  pub is_unwritten : new ≡ old
+
+-- a unit is judged and told; or a fault that all have is left to another one
+abbrev pub DoesUnit : UnitFlags → List ℕ → Status → Option (List ℕ) → Option (List ℕ) → Type 0
+DoesUnit flags file status old new =
+    OfUnit flags file (IsDone flags status old new) ⊎ IsLeftToAnother flags file status old new
+
 -- the call ends with this status, and no fault
 abbrev pub DoesCall : VetCall → Status → Option (List ℕ) → Option (List ℕ) → Type 0
 DoesCall asks_flags status old new = (status ≡ Fine) × Appends old new flag_list
 DoesCall asks_version status old new = (status ≡ Fine) × ((file : ReadFile) × Appends old new (version_line file))
-DoesCall (asks_unit flags file) status old new = OfFlags flags (λ kept. OfUnit kept file (IsDone kept status old new))
+DoesCall (asks_unit flags file) status old new = OfFlags flags (λ kept. DoesUnit kept file status old new)
 DoesCall (has_wrong flag value file) status old new = IsToldOnce file status × (new ≡ old)

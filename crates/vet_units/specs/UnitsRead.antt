@@ -21,11 +21,12 @@ use Rattle.unit_config.specs.KeyedTexts.{AreKeys}
 use Rattle.unit_config.specs.UnitValues.{UnitEntry}
 use Rattle.unit_reading.specs.ToldImports.{AreTold, HaveVetxFault, IsToldFile}
 use Rattle.unit_reading.specs.UnitsTold.{without_suffix}
-use Rattle.inputs.specs.BaselinesRead.{AreLocatedBy, HaveBaselineFault}
-use Rattle.inputs.specs.DeclaredFacts.{AreDeclaredBy, HaveFactsFault}
+use Rattle.inputs.specs.BaselinesRead.{AreLocatedBy, HaveBaselineFault, IsReadBaselineFault}
+use Rattle.inputs.specs.DeclaredFacts.{AreDeclaredBy, HaveFactsFault, IsReadFactsFault}
 use Rattle.vet_units.specs.Digests.{facts_digest}
 use Rattle.inputs.specs.Editions.{edition_or}
 use Rattle.inputs.specs.KnownPackages.{known_beside}
+use Rattle.vet_units.specs.declared.flag_files.FlagFiles.{FlagFiles}
 use Rattle.vet_units.specs.declared.unit_input.UnitInput.{UnitInput}
 
 abbrev pub edition_of_unit : UnitFlags → Edition
@@ -60,6 +61,17 @@ pub record IsPackageOf (flags : UnitFlags) (unit : UnitEntry) (given : GivenPack
   pub is_edition : given.edition ≡ edition_of_unit flags
   pub are_files : AreFilesOf (picked_files flags.with_tests unit.folder unit.files) given.sources.items
   pub are_imports : AreMeantBy unit (map meant_of given.imports.items)
+
+-- The files that the flags name, which are the same for all units of one run of the go command: they were read, and
+-- this is declared, and these are the findings of an earlier run.
+pub record AreFilesFor (flags : UnitFlags) (files : FlagFiles) : Type 0 where
+  pub are_declared : AreDeclaredBy (option_texts flags.facts) files.facts files.declared
+  pub are_known : AreLocatedBy (option_texts flags.baseline) files.baseline
+
+-- one of these files has this fault
+abbrev pub IsFlagFileFault : UnitFlags → Fault → Type 0
+IsFlagFileFault flags fault =
+    IsReadFactsFault (option_texts flags.facts) fault ⊎ IsReadBaselineFault (option_texts flags.baseline) fault
 
 -- what is known of packages beside the unit's own: what is declared, by the second edition of others alone, and of Go's
 -- library

@@ -6,11 +6,13 @@ ghost use Rattle.command_line.specs.VetViews.{call_of};
 ghost use Rattle.folders.specs.declared.whole_files.ReadFile.{ReadFile as FileRead};
 ghost use Rattle.unit_config.specs.UnitValues.{unit_of};
 ghost use Rattle.printed.specs.Printing.{is_of_writing, refused_by, AppendsFront};
-ghost use Rattle.vet_units.specs.UnitRuns.{said_of, unit_status, version_line, DoesCall, FailsByCall, ForUnit, IsFaultFor, IsKeepingFault, HoldsKept, IsDone, IsPrintBegun, IsDoneWith, IsOwnFileFault, IsUnitRunFault, IsVersionFault, OfUnit};
+ghost use Rattle.vet_units.specs.UnitsRead.{AreFilesFor};
+ghost use Rattle.vet_units.specs.UnitRuns.{said_of, unit_status, version_line, DoesCall, FailsByCall, ForUnit, IsFaultFor, IsKeepingFault, HoldsKept, IsDone, IsPrintBegun, IsDoneWith, IsOwnFileFault, IsUnitRunFault, IsVersionFault, DoesUnit, OfUnit};
 
 use crate::digests::digest_text;
+use crate::flag_files::{FlagFiles, read_flag_files};
 use crate::notes::note;
-use crate::told_once::tell_wrong;
+use crate::told_once::{fail_once, tell_wrong};
 use crate::unit_input::read_unit_input;
 use crate::unit_report::{JudgedUnit, judge_unit};
 use command_line::{UnitFlags, VERSION, VET_FLAGS, VetAsked};
@@ -66,15 +68,18 @@ fn status_of(flags: &UnitFlags<'_>, unit: &Unit, judged: &JudgedUnit) -> Status
     }
 }
 
-/// Judges the unit, writes what is kept of it, and then prints its report. After it stand the notes.
+/// Judges the unit, beside the files that the flags name, writes what is kept of it, and then prints its report. After
+/// it stand the notes.
 fn run_unit<'u, R: Files + AllocGlobal, W: Write, E: Write, L: Leave>(
     rt: &R,
     flags: &UnitFlags<'_>,
     unit: &'u Unit,
+    files: FlagFiles<'u>,
     out: &mut W,
     err: &mut E,
     refusals: &mut Refusals,
 ) -> Result<UnitDone<'u>, Fault>
+    requires { AreFilesFor flags.now files }
     ensures done { IfOk result (λ done. ForUnit flags.now (unit_of unit.now)
         (IsDoneWith flags.now done.file done.status (W.contents out.old) (W.contents out.new) (unit_of unit.now))) }
     ensures fault { IfErr result (IsFaultFor flags.now (unit_of unit.now)) }
@@ -83,7 +88,7 @@ fn run_unit<'u, R: Files + AllocGlobal, W: Write, E: Write, L: Leave>(
         (IsPrintBegun (W.contents out.old) (W.contents out.new) (unit_of unit.now))) }
     ensures refused { refusals.new.any ≡ refused_by refusals.old.any result }
 {
-    let input = read_unit_input(rt, flags, unit)?;
+    let input = read_unit_input(rt, flags, unit, files)?;
     let judged = judge_unit::<L>(rt.alloc(), flags, unit, input)?;
     let file = keep(rt, unit, &judged.kept)?;
     print(out, said_of(unit, &judged), refusals)?;
@@ -94,7 +99,8 @@ fn run_unit<'u, R: Files + AllocGlobal, W: Write, E: Write, L: Leave>(
     })
 }
 
-/// Judges the unit in the file of this name, as `run_unit`.
+/// Judges the unit in the file of this name, as `run_unit`. Where a file that the flags name has a fault, one unit of a
+/// run of the go command tells it.
 fn vet_unit<R: Files + AllocGlobal, W: Write, E: Write, L: Leave>(
     rt: &R,
     flags: &UnitFlags<'_>,
@@ -103,8 +109,8 @@ fn vet_unit<R: Files + AllocGlobal, W: Write, E: Write, L: Leave>(
     err: &mut E,
     refusals: &mut Refusals,
 ) -> Result<Status, Fault>
-    ensures told { IfOk result (λ status. OfUnit flags.now file.now
-        (IsDone flags.now status (W.contents out.old) (W.contents out.new))) }
+    ensures told { IfOk result (λ status.
+        DoesUnit flags.now file.now status (W.contents out.old) (W.contents out.new)) }
     ensures fault { IfErr result (IsUnitRunFault flags.now file.now) }
     ensures unwritten { IfErr result (λ fault. is_of_writing fault ≡ false → W.contents out.new ≡ W.contents out.old) }
     ensures begun { IfErr result (λ fault. fault ≡ Fault.CannotWrite → OfUnit flags.now file.now
@@ -112,8 +118,13 @@ fn vet_unit<R: Files + AllocGlobal, W: Write, E: Write, L: Leave>(
     ensures refused { refusals.new.any ≡ refused_by refusals.old.any result }
 {
     let read = read_unit_file(rt, file)?;
-    let done = run_unit::<R, W, E, L>(rt, flags, &read.unit, out, err, refusals)?;
-    Ok(done.status)
+    match read_flag_files(rt, flags) {
+        Ok(files) => {
+            let done = run_unit::<R, W, E, L>(rt, flags, &read.unit, files, out, err, refusals)?;
+            Ok(done.status)
+        }
+        Err(fault) => fail_once(rt, fault, file),
+    }
 }
 
 /// The line that tells which program this is, by its own file.

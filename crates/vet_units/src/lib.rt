@@ -4,6 +4,7 @@
 
 mod calls;
 mod digests;
+mod flag_files;
 mod notes;
 mod told_once;
 mod unit_input;

@@ -3,7 +3,7 @@
 use crate::unit_report::JudgedUnit;
 use command_line::UnitFlags;
 use printed::{PROGRAM, not_given_note, tell};
-use std::alloc::Global;
+use std::alloc::{AllocError, Global};
 use std::io::Write;
 use unit_config::Unit;
 
@@ -32,13 +32,27 @@ pub fn note<E: Write>(
     for import in &judged.not_given {
         tell(not_given_note(alloc, import), err);
     }
-    if flags.tells_keeping {
-        for field in &judged.keeping {
-            tell(
-                format!(in alloc; "{PROGRAM}: note: keeping {field}: {path}\n"),
-                err,
-            );
-        }
+    if flags.tells_keeping && !judged.keeping.is_empty() {
+        tell(keeping_note(alloc, &judged.keeping, path), err);
     }
     let _ = err.flush();
+}
+
+/// The note of the fields in which the package of this path keeps cancel functions, in the words of the line that
+/// `check` has before its yes.
+fn keeping_note(alloc: Global, fields: &[String], path: &str) -> Result<String, AllocError> {
+    let names = listed(alloc, fields)?;
+    format!(in alloc; "{PROGRAM}: note: keeping {names}: {path}\n")
+}
+
+/// These names, with `, ` between them.
+fn listed(alloc: Global, names: &[String]) -> Result<String, AllocError> {
+    let mut list = String::new(alloc);
+    for name in names {
+        if !list.is_empty() {
+            list.push_str(", ")?;
+        }
+        list.push_str(name.as_str())?;
+    }
+    Ok(list)
 }

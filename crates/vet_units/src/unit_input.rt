@@ -6,13 +6,14 @@ ghost use Rattle.folders.specs.ReadFaults.{IsReadFaultOf};
 ghost use Rattle.folders.specs.UnitFiles.{picked_files};
 ghost use Rattle.unit_config.specs.UnitValues.{unit_of};
 ghost use Rattle.load.specs.MeantPaths.{meant_of};
-ghost use Rattle.vet_units.specs.UnitsRead.{digest_for, edition_of_unit, knows_library, means, meant_path_of, AreMeantBy, IsInputFaultOf, IsInputOf, IsPackageOf};
+ghost use Rattle.vet_units.specs.UnitsRead.{digest_for, edition_of_unit, knows_library, means, meant_path_of, AreFilesFor, AreMeantBy, IsInputFaultOf, IsInputOf, IsPackageOf};
 
 use crate::digests::facts_digest;
+use crate::flag_files::FlagFiles;
 use command_line::UnitFlags;
 use declared_json::DeclaredPackages;
 use folders::{Fault, ReadFile, module_above, picked_files, read_files};
-use inputs::{BaselineRead, edition_or, known_beside_paths, read_facts, read_located_baseline};
+use inputs::{BaselineRead, edition_or, known_beside_paths};
 use library_facts::declared_among;
 use load::{GivenPackage, MeantImport};
 use std::alloc::{AllocError, Global};
@@ -39,25 +40,29 @@ pub struct UnitInput<'u> {
     pub passes_over: bool,
 }
 
-/// Reads what the unit names, by these flags: the file of declared facts; the report of an earlier run; what is kept of
-/// imported packages; the path of its module; and its files. Unless an edition is asked for, the package is judged by
-/// the second one.
+/// Reads what the unit names, by these flags, of whose files this was read: what is kept of imported packages; the path
+/// of its module; and its files. Unless an edition is asked for, the package is judged by the second one.
 ///
 /// # Errors
 ///
-/// One of these can't be read; declared facts, or a report, are none; nothing is kept in the file of an imported
-/// package, or another package is, or one that was judged otherwise; or memory was refused. It is the first of these.
+/// One of these can't be read; nothing is kept in the file of an imported package, or another package is, or one that
+/// was judged otherwise; or memory was refused. It is the first of these.
 pub fn read_unit_input<'u, R: Files + AllocGlobal>(
     rt: &R,
-    flags: &UnitFlags<'u>,
+    flags: &UnitFlags<'_>,
     unit: &'u Unit,
+    files: FlagFiles<'u>,
 ) -> Result<UnitInput<'u>, Fault>
+    requires { AreFilesFor flags.now files }
     ensures read { IfOk result (IsInputOf flags.now (unit_of unit.now)) }
     ensures fault { IfErr result (IsInputFaultOf flags.now (unit_of unit.now)) }
 {
-    let declared = read_facts(rt, flags.facts)?;
-    let digest = digest_for(rt.alloc(), flags, &declared.file)?;
-    let baseline = read_located_baseline(rt, flags.baseline)?;
+    let FlagFiles {
+        facts,
+        declared,
+        baseline,
+    } = files;
+    let digest = digest_for(rt.alloc(), flags, &facts)?;
     let edition = edition_or(Edition::Second, flags.edition);
     let by = JudgedBy {
         edition: number_of(edition),
@@ -67,16 +72,10 @@ pub fn read_unit_input<'u, R: Files + AllocGlobal>(
     let module_path = module_above(rt, unit.folder.as_str())?;
     let given = read_package(rt, flags, edition, unit)?;
     let own = without_suffix(unit.path.as_str());
-    let passes_over = is_passed_over(rt.alloc(), edition, &declared.outside, own)?;
-    let outside = known_beside_paths(
-        rt.alloc(),
-        edition,
-        flags.without_library,
-        declared.outside,
-        &[own],
-    )?;
+    let passes_over = is_passed_over(rt.alloc(), edition, &declared, own)?;
+    let outside = known_beside_paths(rt.alloc(), edition, flags.without_library, declared, &[own])?;
     Ok(UnitInput {
-        facts: declared.file,
+        facts,
         outside,
         digest,
         baseline,
